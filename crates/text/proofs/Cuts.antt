@@ -9,11 +9,11 @@ use lib.ListN.{length, set, take, drop, length-drop, take-append-drop}
 use Rattle.std.specs.shelf.Lists.{leading}
 use Rattle.std.proofs.shelf.Lists.{length-take-le, drop-drop, set-split}
 use Rattle.std.proofs.shelf.Sums.{leading-le-length}
-use Rattle.text.specs.declared.token.Run.the-variants.{Line}
-use Rattle.text.specs.Bytes.{goesOn}
-use Rattle.text.specs.Tokens.{Stops}
+use Rattle.grammar.specs.declared.token.Run.the-variants.{Line}
+use Rattle.grammar.specs.Bytes.{goesOn}
+use Rattle.grammar.specs.Tokens.{Stops}
 use Rattle.text.specs.Outcome.{LineAt}
-use Rattle.text.proofs.Fronts.{runs-leading}
+use Rattle.grammar.proofs.Fronts.{runs-leading}
 
 -- the bytes up to the next byte 10 are a line
 pub line-there : (text : List ℕ) (at : ℕ) → at ≤ length text → LineAt text at (take (leading (goesOn Line) (drop at text)) (drop at text))

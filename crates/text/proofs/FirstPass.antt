@@ -13,16 +13,16 @@ use Rattle.std.specs.declared.result.Result.the-variants.{Ok, Err}
 use Rattle.std.specs.shelf.Lists.{All, leading}
 use Rattle.text.specs.declared.fault.Fault.{Fault}
 use Rattle.text.specs.declared.fault.Fault.the-variants.{TooLong, Grammar, Twice, NoRoom, Unknown}
-use Rattle.text.specs.declared.line.Line.{Line}
+use Rattle.grammar.specs.declared.line.Line.{Line}
 use Rattle.text.specs.declared.table.Counts.{Counts}
 use Rattle.text.specs.declared.table.Label.{Label}
-use Rattle.text.specs.declared.token.Run.the-variants as run
-use Rattle.text.specs.Bytes.{goesOn}
-use Rattle.text.specs.Forms.{Ins}
-use Rattle.text.specs.Lines.{Says, labelIn, codeIn}
+use Rattle.grammar.specs.declared.token.Run.the-variants as run
+use Rattle.grammar.specs.Bytes.{goesOn}
+use Rattle.grammar.specs.Forms.{Ins}
+use Rattle.grammar.specs.Lines.{Says, labelIn, codeIn}
 use Rattle.text.specs.Table.{Within}
 use Rattle.text.specs.Outcome.{LineAt, Code, State, start, size, defined, coded, Fresh, Places, Room, after, Step, Lines, none, then, entered, Stopped, Whole, Outcome}
-use Rattle.text.proofs.Fronts.{label-place}
+use Rattle.grammar.proofs.Fronts.{label-place}
 use Rattle.text.specs.Passes.{Filled, Checked, labelled, counted, FirstRead}
 
 -- the lines before place `at` are good, and counts and table stand for what they left

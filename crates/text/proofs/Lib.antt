@@ -1,14 +1,10 @@
 pub mod Cuts
 pub mod Endings
 pub mod FirstPass
-pub mod Fronts
 pub mod Labels
-pub mod Lists
-pub mod Numbers
 pub mod Outcomes
 pub mod PlainBytes
 pub mod PlainLaw
 pub mod PlainLines
 pub mod PlainSteps
-pub mod Readings
 pub mod SecondPass

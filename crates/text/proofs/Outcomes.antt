@@ -13,14 +13,14 @@ use Rattle.std.proofs.shelf.Lists.{drop-drop}
 use Rattle.std.proofs.shelf.Tests.{cases-lt}
 use Rattle.text.specs.declared.fault.Fault.{Fault}
 use Rattle.text.specs.declared.fault.Fault.the-variants.{TooLong, Grammar, Twice, NoRoom, Unknown}
-use Rattle.text.specs.declared.token.Run.the-variants.{Line}
+use Rattle.grammar.specs.declared.token.Run.the-variants.{Line}
 use Rattle.text.specs.declared.table.Counts.{Counts}
 use Rattle.text.specs.declared.table.Label.{Label}
-use Rattle.text.specs.Forms.{Ins}
-use Rattle.text.specs.Lines.{Says}
+use Rattle.grammar.specs.Forms.{Ins}
+use Rattle.grammar.specs.Lines.{Says}
 use Rattle.text.specs.Outcome.{LineAt, Code, State, start, coded, Fresh, Room, Foreign, Repeats, Crowded, Step, Lines, none, then, Stopped, Whole, Known, Lost, Assembled, Outcome}
-use Rattle.text.proofs.Fronts.{one-cut}
-use Rattle.text.proofs.Readings.{says-one}
+use Rattle.grammar.proofs.Fronts.{one-cut}
+use Rattle.grammar.proofs.Readings.{says-one}
 
 -- a line and what is behind it
 line-cut : (text : List ℕ) (at : ℕ) (bytes : List ℕ) → LineAt text at bytes → bytes ++ drop (at + length bytes) text ≡ drop at text

@@ -11,15 +11,15 @@ use Rattle.std.proofs.shelf.Decimals.{decimal-by-steps, decimal-some, length-de
 use Rattle.std.proofs.shelf.Elements.{all-append, all-weaker}
 use Rattle.std.proofs.shelf.Tests.{and-parts, leb-true}
 use Rattle.std.proofs.shelf.Ways.{tells}
-use Rattle.text.specs.Bytes.{classOf, goesOn, letter, wordy}
-use Rattle.text.specs.declared.instruction.Binary.the-variants.{Add, Sub, Mul, Div}
-use Rattle.text.specs.declared.instruction.Unary.the-variants.{Floor, Abs, Sqrt}
-use Rattle.text.specs.declared.instruction.Mnemonic.{Mnemonic}
-use Rattle.text.specs.declared.instruction.Mnemonic.the-variants as mnemonic
-use Rattle.text.specs.declared.token.Class.the-variants.{Letter}
-use Rattle.text.specs.declared.token.Run.the-variants.{Name, Digits, Line}
-use Rattle.text.specs.Tokens.{Runs, IsName}
-use Rattle.text.specs.Forms.{spelling}
+use Rattle.grammar.specs.Bytes.{classOf, goesOn, letter, wordy}
+use Rattle.grammar.specs.declared.instruction.Binary.the-variants.{Add, Sub, Mul, Div}
+use Rattle.grammar.specs.declared.instruction.Unary.the-variants.{Floor, Abs, Sqrt}
+use Rattle.grammar.specs.declared.instruction.Mnemonic.{Mnemonic}
+use Rattle.grammar.specs.declared.instruction.Mnemonic.the-variants as mnemonic
+use Rattle.grammar.specs.declared.token.Class.the-variants.{Letter}
+use Rattle.grammar.specs.declared.token.Run.the-variants.{Name, Digits, Line}
+use Rattle.grammar.specs.Tokens.{Runs, IsName}
+use Rattle.grammar.specs.Forms.{spelling}
 use Rattle.text.specs.Plain.{labelName}
 
 -- the byte of a digit

@@ -10,12 +10,12 @@ use Rattle.std.specs.declared.option.Option.the-variants.{Some, None}
 use Rattle.std.specs.Written.{decimal}
 use Rattle.std.specs.shelf.Lists.{All}
 use Rattle.std.proofs.shelf.Elements.{all-append, all-weaker}
-use Rattle.text.specs.Bytes.{goesOn}
-use Rattle.text.specs.declared.token.Run.the-variants.{Spaces, Name, Line}
-use Rattle.text.specs.Tokens.{Tok, name, colon, comma, Runs, Stops, IsName, Spells, Parted, Next, Ends, Spelled}
-use Rattle.text.specs.Grammar.{Opd, reg, num, lab, InRange, token, tailed, listed}
-use Rattle.text.specs.Forms.{Ins, spelling, mnemonicOf, operandsOf, Kinds, Formed}
-use Rattle.text.specs.Lines.{Says}
+use Rattle.grammar.specs.Bytes.{goesOn}
+use Rattle.grammar.specs.declared.token.Run.the-variants.{Spaces, Name, Line}
+use Rattle.grammar.specs.Tokens.{Tok, name, colon, comma, Runs, Stops, IsName, Spells, Parted, Next, Ends, Spelled}
+use Rattle.grammar.specs.Grammar.{Opd, reg, num, lab, InRange, token, tailed, listed}
+use Rattle.grammar.specs.Forms.{Ins, spelling, mnemonicOf, operandsOf, Kinds, Formed}
+use Rattle.grammar.specs.Lines.{Says}
 use Rattle.text.specs.Plain.{Plain, binary, unary, cmov, bltz, setx, loop, done, nop, Holds, labelName, written, operandText, tailText, listText, codeText}
 use Rattle.text.proofs.PlainBytes.{digits-run, digits-name, name-line, number-some, number-short, label-name, label-short, spelling-name}
 

@@ -14,12 +14,12 @@ use Rattle.std.proofs.shelf.Lists.{take-at, drop-at, append-nil}
 use Rattle.std.proofs.shelf.Equals.{sameBytes-decides}
 use Rattle.std.proofs.shelf.Tests.{cases-bool, cases-eq}
 use Rattle.text.specs.declared.table.Label.{Label}
-use Rattle.text.specs.declared.token.Run.the-variants as run
-use Rattle.text.specs.Tokens.{Runs, Stops}
+use Rattle.grammar.specs.declared.token.Run.the-variants as run
+use Rattle.grammar.specs.Tokens.{Runs, Stops}
 use Rattle.text.specs.Table.{nameIn, addressOf}
 use Rattle.text.specs.Outcome.{LineAt, Code, State, start, size, after, Step, Lines, none, then}
 use Rattle.text.specs.Plain.{Plain, Holds, labelName, written, layoutFrom}
-use Rattle.text.proofs.Numbers.{same-number}
+use Rattle.grammar.proofs.Numbers.{same-number}
 use Rattle.text.proofs.PlainBytes.{label-short}
 use Rattle.text.proofs.PlainLines.{behind, coding, Held, lineText, line-says, line-solid, line-short}
 

@@ -16,16 +16,16 @@ use Rattle.text.specs.declared.assembly.Pass.{Pass}
 use Rattle.text.specs.declared.assembly.Pass.the-variants.{Check, Write}
 use Rattle.text.specs.declared.fault.Fault.{Fault}
 use Rattle.text.specs.declared.fault.Fault.the-variants.{TooLong, Grammar, Twice, NoRoom, Unknown}
-use Rattle.text.specs.declared.instruction.Instruction.{Instruction}
+use Rattle.grammar.specs.declared.instruction.Instruction.{Instruction}
 use Rattle.text.specs.declared.table.Label.{Label}
-use Rattle.text.specs.Forms.{Ins, ins, Formed}
-use Rattle.text.specs.Lines.{Says}
+use Rattle.grammar.specs.Forms.{Ins, ins, Formed}
+use Rattle.grammar.specs.Lines.{Says}
 use Rattle.text.specs.Table.{Within, Resolved, wordIn, WordFor}
 use Rattle.text.specs.Outcome.{LineAt, Code, State, start, coded, after, Step, Lines, none, then, Whole, Known}
 use Rattle.text.specs.Passes.{CodeIn, Ready, Leaves, wordsOf, FirstLost, SecondRead, WordsRead}
 use Rattle.text.proofs.FirstPass.{lines-names, size-coded}
 use Rattle.text.proofs.Outcomes.{line-one, whole-one, whole-step, whole-front, all-at}
-use Rattle.text.proofs.Readings.{says-one}
+use Rattle.grammar.proofs.Readings.{says-one}
 
 pub formed-code : (o : Option Instruction) → Cases (mapped ins o) (Unit {0}) Formed → Cases o (Unit {0}) (λ x. Formed (ins x))
 formed-code None f = tt

@@ -1,11 +1,6 @@
-pub mod Bytes
 pub mod Faults
-pub mod Forms
-pub mod Grammar
-pub mod Lines
 pub mod Outcome
 pub mod Passes
 pub mod Plain
 pub mod Table
-pub mod Tokens
 pub mod Words

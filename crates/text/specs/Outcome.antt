@@ -13,11 +13,11 @@ use Rattle.text.specs.declared.fault.Fault.{Fault}
 use Rattle.text.specs.declared.fault.Fault.the-variants.{TooLong, Grammar, Twice, NoRoom, Unknown}
 use Rattle.text.specs.declared.table.Counts.{Counts}
 use Rattle.text.specs.declared.table.Label.{Label}
-use Rattle.text.specs.declared.token.Run.the-variants as run
-use Rattle.text.specs.Bytes.{goesOn}
-use Rattle.text.specs.Tokens.{Runs, Stops}
-use Rattle.text.specs.Forms.{Ins}
-use Rattle.text.specs.Lines.{Says}
+use Rattle.grammar.specs.declared.token.Run.the-variants as run
+use Rattle.grammar.specs.Bytes.{goesOn}
+use Rattle.grammar.specs.Tokens.{Runs, Stops}
+use Rattle.grammar.specs.Forms.{Ins}
+use Rattle.grammar.specs.Lines.{Says}
 use Rattle.text.specs.Table.{addressOf, Resolved, wordIn}
 
 -- the line that begins at a place: it goes to the next byte 10 or to the end of the text

@@ -13,12 +13,12 @@ use Rattle.text.specs.declared.assembly.Pass.{Pass}
 use Rattle.text.specs.declared.assembly.Pass.the-variants.{Check, Write}
 use Rattle.text.specs.declared.fault.Fault.{Fault}
 use Rattle.text.specs.declared.fault.Fault.the-variants.{TooLong, Grammar, Twice, NoRoom, Unknown}
-use Rattle.text.specs.declared.instruction.Instruction.{Instruction}
-use Rattle.text.specs.declared.line.Line.{Line}
+use Rattle.grammar.specs.declared.instruction.Instruction.{Instruction}
+use Rattle.grammar.specs.declared.line.Line.{Line}
 use Rattle.text.specs.declared.table.Counts.{Counts}
 use Rattle.text.specs.declared.table.Label.{Label}
-use Rattle.text.specs.Forms.{Ins, ins, Formed}
-use Rattle.text.specs.Lines.{Says, labelIn, codeIn}
+use Rattle.grammar.specs.Forms.{Ins, ins, Formed}
+use Rattle.grammar.specs.Lines.{Says, labelIn, codeIn}
 use Rattle.text.specs.Table.{Within, wordIn}
 use Rattle.text.specs.Outcome.{Code, State, Lines, Whole, Known, Fresh, size, Places, Foreign, Repeats, Crowded, entered, Outcome}
 

@@ -8,13 +8,13 @@ use Rattle.std.specs.declared.result.Result.the-variants.{Ok}
 use Rattle.std.specs.Written.{decimal}
 use Rattle.std.specs.shelf.Lists.{All}
 use Rattle.text.specs.declared.fault.Fault.{Fault}
-use Rattle.text.specs.declared.instruction.Binary.{Binary}
-use Rattle.text.specs.declared.instruction.Unary.{Unary}
+use Rattle.grammar.specs.declared.instruction.Binary.{Binary}
+use Rattle.grammar.specs.declared.instruction.Unary.{Unary}
 use Rattle.text.specs.declared.table.Counts.{Counts}
 use Rattle.text.specs.declared.table.Label.{Label}
-use Rattle.text.specs.Grammar.{Opd, reg, num, lab}
-use Rattle.text.specs.Forms as forms
-use Rattle.text.specs.Forms.{Ins, spelling, mnemonicOf, operandsOf}
+use Rattle.grammar.specs.Grammar.{Opd, reg, num, lab}
+use Rattle.grammar.specs.Forms as forms
+use Rattle.grammar.specs.Forms.{Ins, spelling, mnemonicOf, operandsOf}
 use Rattle.text.specs.Words.{wordOf}
 
 -- an instruction by its numbers; a target is an address

@@ -9,8 +9,8 @@ use Rattle.std.specs.declared.option.Option.the-variants.{Some, None}
 use Rattle.std.specs.Options.{Cases, valueOr}
 use Rattle.std.specs.shelf.Text.{sameBytes}
 use Rattle.text.specs.declared.table.Label.{Label}
-use Rattle.text.specs.Grammar.{Opd, reg, num, lab}
-use Rattle.text.specs.Forms.{Ins, binary, unary, cmov, bltz, setx, loop, done, nop}
+use Rattle.grammar.specs.Grammar.{Opd, reg, num, lab}
+use Rattle.grammar.specs.Forms.{Ins, binary, unary, cmov, bltz, setx, loop, done, nop}
 use Rattle.text.specs.Words.{wordOf}
 
 -- the name of a label, in the text

@@ -1,11 +1,11 @@
 -- The words of instructions: 20 bits, the code in bits 19 to 16.
 use Prim.Native.Nat.{ℕ, _+_, _-_, _*_, _/_, _%_, _^_}
-use Rattle.text.specs.declared.instruction.Binary.{Binary}
-use Rattle.text.specs.declared.instruction.Binary.the-variants.{Add, Sub, Mul, Div}
-use Rattle.text.specs.declared.instruction.Unary.{Unary}
-use Rattle.text.specs.declared.instruction.Unary.the-variants.{Floor, Abs, Sqrt}
-use Rattle.text.specs.Grammar.{Opd, reg, num, lab}
-use Rattle.text.specs.Forms.{Ins, binary, unary, cmov, bltz, setx, loop, done, nop}
+use Rattle.grammar.specs.declared.instruction.Binary.{Binary}
+use Rattle.grammar.specs.declared.instruction.Binary.the-variants.{Add, Sub, Mul, Div}
+use Rattle.grammar.specs.declared.instruction.Unary.{Unary}
+use Rattle.grammar.specs.declared.instruction.Unary.the-variants.{Floor, Abs, Sqrt}
+use Rattle.grammar.specs.Grammar.{Opd, reg, num, lab}
+use Rattle.grammar.specs.Forms.{Ins, binary, unary, cmov, bltz, setx, loop, done, nop}
 
 abbrev pub binaryCode : Binary → ℕ
 binaryCode Add = 0

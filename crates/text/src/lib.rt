@@ -1,11 +1,7 @@
 // Shader text to program words.
 mod assembly;
 mod fault;
-mod instruction;
-mod line;
-mod operand;
 mod table;
-mod token;
 mod word;
 
 pub use assembly::assemble;

@@ -1,12 +1,12 @@
 // The words of instructions: 20 bits, unused ones 0.
-use crate::instruction::Binary;
-use crate::instruction::Instruction;
-use crate::instruction::Unary;
-use crate::operand::Operand;
+use grammar::Binary;
+use grammar::Instruction;
+use grammar::Operand;
+use grammar::Unary;
 ghost use mathlib.Core.Path.{_≡_};
 ghost use Prim.Native.Nat.{_≤_, _<_, _^_};
-ghost use Rattle.text.specs.Forms.{ins, Formed};
-ghost use Rattle.text.specs.Grammar.{opd};
+ghost use Rattle.grammar.specs.Forms.{ins, Formed};
+ghost use Rattle.grammar.specs.Grammar.{opd};
 ghost use Rattle.text.specs.Words.{binaryCode, unaryCode, value, packed, wordOf};
 
 fn binary_code(op: Binary) -> u32

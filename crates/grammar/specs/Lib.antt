@@ -1,0 +1,5 @@
+pub mod Bytes
+pub mod Forms
+pub mod Grammar
+pub mod Lines
+pub mod Tokens

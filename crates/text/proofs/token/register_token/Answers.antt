@@ -1,8 +1,0 @@
-use native.Mathlib.Nat.{sub-zero}
-use Rattle.std.proofs.shelf.Lists.{take-rest}
-use Rattle.text.proofs.Fronts.{next-register}
-use Rattle.text.proofs.token.register_token.Needs as need
-
-pub returns : need.returns
-returns c =
-    simp (sub-zero, take-rest) (next-register (c .args .bytes .now) (c .run-len-n .result) (simp take-rest at (c .run-len-n .ensures .value)) (c .pre))
