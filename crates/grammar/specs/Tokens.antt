@@ -94,6 +94,15 @@ seen (token.Comma line) = Some comma
 seen (token.Colon line) = Some colon
 seen (token.End line) = None
 
+-- the line that a token is on
+abbrev pub lineOf : Token → ℕ
+lineOf (token.Name text line) = line
+lineOf (token.Number text line) = line
+lineOf (token.Register text line) = line
+lineOf (token.Comma line) = line
+lineOf (token.Colon line) = line
+lineOf (token.End line) = line
+
 -- what the reader says of the front of the bytes
 abbrev pub Lexes : List ℕ → Token → List ℕ → Type 0
 Lexes bs t rest = Cases (seen t) (Ends bs) (λ u. Next bs u rest)

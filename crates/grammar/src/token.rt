@@ -2,9 +2,10 @@
 ghost use mathlib.Core.Path.{_≡_};
 ghost use Prim.Native.Nat.{_≤_, _<_};
 ghost use lib.ListN.{length};
+ghost use Rattle.std.specs.Options.{Cases};
 ghost use Rattle.std.specs.shelf.Lists.{leading};
 ghost use Rattle.grammar.specs.Bytes.{classOf, goesOn};
-ghost use Rattle.grammar.specs.Tokens.{Lexes, Fronts, Stops, Opens};
+ghost use Rattle.grammar.specs.Tokens.{lineOf, Lexes, Fronts, Stops, Opens};
 
 // What a byte can be or begin.
 #[derive(Clone, Copy)]
@@ -86,7 +87,8 @@ pub fn run_len(bytes: &[u8], run: Run) -> usize
 // A name at the front of the bytes, of at most sixteen bytes.
 fn name_token<'a>(bytes: &'a [u8], line: u32) -> Option<(Token<'a>, &'a [u8])>
     requires { ⌜ Opens Class.Letter (now bytes) ⌝ }
-    ensures { λ r. ⌜ Fronts (now (bytes .entry)) r ⌝ }
+    ensures fronts { λ r. ⌜ Fronts (now (bytes .entry)) r ⌝ }
+    ensures line { λ r. ⌜ Cases r (Unit {0}) (λ p. lineOf (p .0) ≡ line) ⌝ }
 {
     let n = run_len(bytes, Run::Name);
     if n > 16 {
@@ -104,7 +106,8 @@ fn name_token<'a>(bytes: &'a [u8], line: u32) -> Option<(Token<'a>, &'a [u8])>
 // A number at the front of the bytes.
 fn number_token<'a>(bytes: &'a [u8], line: u32) -> (Token<'a>, &'a [u8])
     requires { ⌜ Opens Class.Digit (now bytes) ⌝ }
-    ensures { λ r. ⌜ Lexes (now (bytes .entry)) (r .0) (now (r .1)) ⌝ }
+    ensures lexes { λ r. ⌜ Lexes (now (bytes .entry)) (r .0) (now (r .1)) ⌝ }
+    ensures line { λ r. ⌜ lineOf (r .0) ≡ line ⌝ }
 {
     let n = run_len(bytes, Run::Digits);
     (
@@ -119,7 +122,8 @@ fn number_token<'a>(bytes: &'a [u8], line: u32) -> (Token<'a>, &'a [u8])
 // A dollar sign at the front of the bytes, with the digits that touch it.
 fn register_token<'a>(bytes: &'a [u8], line: u32) -> (Token<'a>, &'a [u8])
     requires { ⌜ Opens Class.Dollar (now bytes) ⌝ }
-    ensures { λ r. ⌜ Lexes (now (bytes .entry)) (r .0) (now (r .1)) ⌝ }
+    ensures lexes { λ r. ⌜ Lexes (now (bytes .entry)) (r .0) (now (r .1)) ⌝ }
+    ensures line { λ r. ⌜ lineOf (r .0) ≡ line ⌝ }
 {
     let n = 1 + run_len(&bytes[1..], Run::Digits);
     (
@@ -134,7 +138,8 @@ fn register_token<'a>(bytes: &'a [u8], line: u32) -> (Token<'a>, &'a [u8])
 // The token that the first byte begins, and what follows it.
 fn front_token<'a>(bytes: &'a [u8], line: u32) -> Option<(Token<'a>, &'a [u8])>
     requires { ⌜ Stops Run.Spaces (now bytes) ⌝ }
-    ensures { λ r. ⌜ Fronts (now (bytes .entry)) r ⌝ }
+    ensures fronts { λ r. ⌜ Fronts (now (bytes .entry)) r ⌝ }
+    ensures line { λ r. ⌜ Cases r (Unit {0}) (λ p. lineOf (p .0) ≡ line) ⌝ }
 {
     if bytes.len() == 0 {
         return Some((Token::End { line }, bytes));
@@ -152,7 +157,8 @@ fn front_token<'a>(bytes: &'a [u8], line: u32) -> Option<(Token<'a>, &'a [u8])>
 
 // The next token of a line and what follows it, or none where the line leaves the grammar.
 pub(crate) fn next_token<'a>(bytes: &'a [u8], line: u32) -> Option<(Token<'a>, &'a [u8])>
-    ensures { λ r. ⌜ Fronts (now (bytes .entry)) r ⌝ }
+    ensures fronts { λ r. ⌜ Fronts (now (bytes .entry)) r ⌝ }
+    ensures line { λ r. ⌜ Cases r (Unit {0}) (λ p. lineOf (p .0) ≡ line) ⌝ }
 {
     let n = run_len(bytes, Run::Spaces);
     front_token(&bytes[n..], line)

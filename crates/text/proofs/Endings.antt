@@ -14,6 +14,8 @@ use Rattle.text.specs.declared.table.Label.{Label}
 use Rattle.text.specs.Outcome.{State, Whole, Lost, Assembled, Outcome, OneOutcome}
 use Rattle.text.specs.Passes.{FirstRead, Ready, WordsRead}
 use Rattle.text.specs.Plain.{GivesBack}
+use Rattle.text.specs.Words.{WordFields}
+use Rattle.text.proofs.Formats.{word-fields}
 use Rattle.text.proofs.Outcomes.{outcome-one}
 use Rattle.text.proofs.PlainLaw.{gives-back}
 
@@ -58,6 +60,6 @@ module _ (text words : List ℕ) (labels labels′ : List Label) (c : Counts) (h
         let r = k (h .0) (length labels) (h .1) table-is in
         record { state = h .0; whole = h .1; known = r .0; words-count = h .2; labels-count = h .3; words-are = r .1; labels-are = h .4 }
 
--- what is said of an outcome: that it is the only one, and what it is for a text in the plain layout
-pub settled : (text words : List ℕ) (labels : List Label) (r : Result Counts Fault) (words′ : List ℕ) (labels′ : List Label) → Outcome text words labels r words′ labels′ → record { outcome : Outcome text words labels r words′ labels′; alone : OneOutcome text words labels; plain : GivesBack text words labels r words′ }
-settled text words labels r words′ labels′ o = record { outcome = o; alone = outcome-one text words labels; plain = gives-back text words labels r words′ labels′ o }
+-- what is said of an outcome: that it is the only one, that its words can be read back, and what it is for a text in the plain layout
+pub settled : (text words : List ℕ) (labels : List Label) (r : Result Counts Fault) (words′ : List ℕ) (labels′ : List Label) → Outcome text words labels r words′ labels′ → record { outcome : Outcome text words labels r words′ labels′; alone : OneOutcome text words labels; formats : WordFields; plain : GivesBack text words labels r words′ }
+settled text words labels r words′ labels′ o = record { outcome = o; alone = outcome-one text words labels; formats = word-fields; plain = gives-back text words labels r words′ labels′ o }

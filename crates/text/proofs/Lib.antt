@@ -1,6 +1,7 @@
 pub mod Cuts
 pub mod Endings
 pub mod FirstPass
+pub mod Formats
 pub mod Labels
 pub mod Outcomes
 pub mod PlainBytes

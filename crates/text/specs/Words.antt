@@ -1,11 +1,12 @@
 -- The words of instructions: 20 bits, the code in bits 19 to 16.
-use Prim.Native.Nat.{ℕ, _+_, _-_, _*_, _/_, _%_, _^_}
+use mathlib.Core.Path.{_≡_}
+use Prim.Native.Nat.{ℕ, _+_, _-_, _*_, _/_, _%_, _^_, _≤_}
 use Rattle.grammar.specs.declared.instruction.Binary.{Binary}
 use Rattle.grammar.specs.declared.instruction.Binary.the-variants.{Add, Sub, Mul, Div}
 use Rattle.grammar.specs.declared.instruction.Unary.{Unary}
 use Rattle.grammar.specs.declared.instruction.Unary.the-variants.{Floor, Abs, Sqrt}
 use Rattle.grammar.specs.Grammar.{Opd, reg, num, lab}
-use Rattle.grammar.specs.Forms.{Ins, binary, unary, cmov, bltz, setx, loop, done, nop}
+use Rattle.grammar.specs.Forms.{Ins, binary, unary, cmov, bltz, setx, loop, done, nop, Formed}
 
 abbrev pub binaryCode : Binary → ℕ
 binaryCode Add = 0
@@ -38,3 +39,37 @@ wordOf (setx v) target = 14 * 2 ^ 16 + value target v
 wordOf (loop t) target = 15 * 2 ^ 16 + value target t
 wordOf done target = 10 * 2 ^ 16
 wordOf nop target = 0
+
+-- the fields of a word with a destination: all bits are told
+pub record Packed (code d a b w : ℕ) : Type 0 where
+  pub code-is : w / 2 ^ 16 ≡ code
+  pub destination-is : 16 + w / 2 ^ 12 % 2 ^ 4 ≡ d
+  pub a-is : w / 2 ^ 7 % 2 ^ 5 ≡ a
+  pub b-is : w / 2 ^ 2 % 2 ^ 5 ≡ b
+  pub rest-is : w % 2 ^ 2 ≡ 0
+
+-- the fields of a branch: source and target
+pub record Branches (a target w : ℕ) : Type 0 where
+  pub code-is : w / 2 ^ 16 ≡ 13
+  pub a-is : w / 2 ^ 7 % 2 ^ 5 ≡ a
+  pub target-is : (w / 2 ^ 12 % 2 ^ 4) * 2 ^ 7 + w % 2 ^ 7 ≡ target
+
+-- the fields of a word with one number
+pub record Numbered (code v w : ℕ) : Type 0 where
+  pub code-is : w / 2 ^ 16 ≡ code
+  pub value-is : w % 2 ^ 16 ≡ v
+
+-- what the bits of an instruction's word say
+abbrev pub Fields : Ins → ℕ → ℕ → Type 0
+Fields (binary op d a b) target w = Packed (binaryCode op) (value target d) (value target a) (value target b) w
+Fields (unary op d a) target w = Packed (unaryCode op) (value target d) (value target a) 0 w
+Fields (cmov d a b) target w = Packed 8 (value target d) (value target a) (value target b) w
+Fields (bltz a t) target w = Branches (value target a) (value target t) w
+Fields (setx v) target w = Numbered 14 (value target v) w
+Fields (loop t) target w = Numbered 15 (value target t) w
+Fields done target w = Numbered 10 0 w
+Fields nop target w = Numbered 0 0 w
+
+-- each field of each word can be read back
+abbrev pub WordFields : Type 0
+WordFields = (i : Ins) (target : ℕ) → Formed i → target ≤ 2047 → Fields i target (wordOf i target)

@@ -11,18 +11,19 @@ use grammar::Run;
 use grammar::read_line;
 use grammar::run_len;
 ghost use mathlib.Core.Path.{_≡_};
+ghost use mathlib.Core.List.{_++_};
 ghost use Prim.Native.Nat.{ℕ, _+_, _^_, _≤_, _<_};
 ghost use lib.ListN.{length, set, take, drop};
-ghost use Rattle.std.specs.shelf.Lists.{All};
 ghost use Rattle.std.specs.Options.{mapped};
 ghost use Rattle.std.specs.Orderings.{Decides};
+ghost use Rattle.std.specs.shelf.Lists.{All};
 ghost use Rattle.grammar.specs.Forms.{ins, Formed};
-ghost use Rattle.text.specs.Table.{Within, WordFor, labelUsed};
-ghost use mathlib.Core.List.{_++_};
 ghost use Rattle.grammar.specs.Lines.{labelIn, codeIn};
 ghost use Rattle.text.specs.Outcome.{LineAt, Outcome, OneOutcome, State, Whole, size, Fresh, Places};
-ghost use Rattle.text.specs.Plain.{GivesBack};
 ghost use Rattle.text.specs.Passes.{Filled, Checked, labelled, counted, FirstRead, CodeIn, Leaves, Ready, SecondRead, WordsRead};
+ghost use Rattle.text.specs.Plain.{GivesBack};
+ghost use Rattle.text.specs.Table.{Within, WordFor, labelUsed};
+ghost use Rattle.text.specs.Words.{WordFields};
 
 // Whether a second reading only checks the labels or also writes the words.
 #[derive(Clone, Copy)]
@@ -221,6 +222,7 @@ fn write_words(text: &[u8], table: &[Label], words: &mut [u32]) -> Result<(), Fa
 pub fn assemble(text: &[u8], words: &mut [u32], labels: &mut [Label]) -> Result<Counts, Fault>
     ensures outcome { λ r. ⌜ Outcome (now (text .entry)) (now (words .entry)) (now (labels .entry)) r (now (words .exit)) (now (labels .exit)) ⌝ }
     ensures alone { λ _. ⌜ OneOutcome (now (text .entry)) (now (words .entry)) (now (labels .entry)) ⌝ }
+    ensures formats { λ _. ⌜ WordFields ⌝ }
     ensures plain { λ r. ⌜ GivesBack (now (text .entry)) (now (words .entry)) (now (labels .entry)) r (now (words .exit)) ⌝ }
 {
     if text.len() > 65535 {

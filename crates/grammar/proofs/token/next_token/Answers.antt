@@ -8,5 +8,8 @@ front-token-requires c κs =
 
 pub returns : need.returns
 returns c =
-    fronts-behind (c .args .bytes .now) (c .front-token .result)
-    (rw (front-read (c .args .bytes .now) (c .run-len-n .result) (c .run-len-n .ensures .value)) at (c .front-token .ensures))
+    let told = c .front-token .ensures in
+    record {
+      fronts = fronts-behind (c .args .bytes .now) (c .front-token .result) (rw (front-read (c .args .bytes .now) (c .run-len-n .result) (c .run-len-n .ensures .value)) at (told .fronts));
+      line = told .line;
+    }

@@ -1,7 +1,8 @@
+use mathlib.Core.Path.{refl}
 use native.Mathlib.Nat.{sub-zero}
 use Rattle.std.proofs.shelf.Lists.{take-rest}
 use Rattle.grammar.proofs.Fronts.{next-number}
 use Rattle.grammar.proofs.token.number_token.Needs as need
 
 pub returns : need.returns
-returns c = simp (sub-zero, take-rest) (next-number (c .args .bytes .now) (c .run-len-n .result) (c .run-len-n .ensures .value) (c .pre))
+returns c = record { lexes = simp (sub-zero, take-rest) (next-number (c .args .bytes .now) (c .run-len-n .result) (c .run-len-n .ensures .value) (c .pre)); line = refl }
