@@ -1,9 +1,9 @@
 -- The words that are counted are among those that are written.
-use mathlib.Core.Path.{_≡_, ap, subst}
+use mathlib.Core.Path.{_≡_, ap}
 use mathlib.Core.List.{List, _++_}
-use Prim.Native.Nat.{ℕ, _-_, _≤_}
+use Prim.Native.Nat.{ℕ, _≤_}
 use native.Mathlib.Omega.{arith}
-use lib.ListN.{length, take, drop, length-append}
+use lib.ListN.{length, drop, length-append}
 use Rattle.std.proofs.shelf.Lists.{length-map}
 use Rattle.text.specs.declared.table.Counts.{Counts}
 use Rattle.text.specs.declared.table.Label.{Label}
@@ -15,7 +15,3 @@ pub counted : (text words : List ℕ) (labels : List Label) (c : Counts) (words�
 counted text words labels c words′ labels′ h =
     let code = h .state .code in
     omega (arith, h .words-count, ap length (h .words-are), length-append (wordsOf text (h .state) code) (drop (length code) words), length-map code (λ i. wordIn text (h .state .defs) (i .ins)))
-
--- a part from the start, as the code reads it
-pub from-start : (P : List ℕ → Type 0) (xs : List ℕ) (n : ℕ) → P (take (n - 0) xs) → P (take n xs)
-from-start P xs n p = let same : n - 0 ≡ n = omega arith in subst (λ m. P (take m xs)) same p

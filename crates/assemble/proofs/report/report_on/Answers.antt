@@ -3,7 +3,8 @@ use borrow.Author.Needs.{needs}
 use Rattle.std.specs.Joined.{joined}
 use Rattle.std.specs.Of.Vec.{vec-items}
 use Rattle.listing.specs.Lines.{wordLine}
-use Rattle.assemble.proofs.Counted.{counted, from-start}
+use Rattle.text.proofs.Cuts.{from-start}
+use Rattle.assemble.proofs.Counted.{counted}
 use Rattle.assemble.proofs.report.report_on.Needs as need
 
 pub part-word-lines-end : need.part-word-lines-end
