@@ -2,6 +2,7 @@
 use mathlib.Core.Path.{_≡_, refl, sym, ap, subst, _∙_}
 use mathlib.Core.Bool.{Bool, true, false, _&&_}
 use mathlib.Core.List.{List, [], _∷_}
+use mathlib.Core.Logic.{inl, inr}
 use Prim.Native.Nat.{ℕ, zero, suc, _+_, _-_, _*_, _≤_, _<_, _^_}
 use native.Mathlib.Omega.{arith}
 use borrow.Author.Needs.{needs}
@@ -49,21 +50,19 @@ wide v h = omega arith
 pub none-empty : (ds : List ℕ) → length ds ≡ 0 → NotNumber 65535 ds
 none-empty ds e v h d = omega (arith, decimal-some v (wide v h), ap length d)
 
-pub zero-alone : (ds : List ℕ) → length ds ≡ 1 → getD ds 0 0 ≡ 48 → NumberUpTo 65535 ds 0
-zero-alone (c ∷ []) e f = (omega arith, ap (λ x. x ∷ []) f ∙ sym (decimal-digit 0 (omega arith)))
-zero-alone [] e f = absurd (omega arith)
-zero-alone (c ∷ d ∷ ds) e f = absurd (omega arith)
-
 -- only 0 has a zero in front
 pub none-padded : (ds : List ℕ) → 1 < length ds → getD ds 0 0 ≡ 48 → NotNumber 65535 ds
 none-padded ds more f zero h d = omega (arith, ap length (d ∙ decimal-digit 0 (omega arith)))
 none-padded ds more f (suc v) h d = omega (arith, ap (λ l. getD l 0 0) d, first-decimal (suc v) (omega arith) (wide (suc v) h))
 
-pub by-digits : (ds : List ℕ) (r : Option ℕ) → 0 < length ds → (getD ds 0 0 ≡ 48 → ⊥) → ReadsOn 0 ds r → Cases r (NotNumber 65535 ds) (NumberUpTo 65535 ds)
+alone-from : (ds : List ℕ) → 0 < length ds → (1 < length ds → ⊥) → length ds ≡ 1
+alone-from ds some h = elim (cases-lt 1 (length ds)) [ inl l ↦ absurd (h l) | inr l ↦ omega arith ]
+
+pub by-digits : (ds : List ℕ) (r : Option ℕ) → 0 < length ds → ((1 < length ds) × (getD ds 0 0 ≡ 48) → ⊥) → ReadsOn 0 ds r → Cases r (NotNumber 65535 ds) (NumberUpTo 65535 ds)
 by-digits ds None some f h = λ v le d. omega (arith, h (rw d (digits-decimal own v (wide v le))), ap (readOn 0) d, value-decimal own v (wide v le))
 by-digits ds (Some v) some f h =
     let le = h .2 in
-    (le, sym (decimal-value own ds (h .0) some (λ e. absurd (f e)) (omega (arith, h .1))) ∙ ap decimal (sym (h .1)))
+    (le, sym (decimal-value own ds (h .0) some (λ e. alone-from ds some (λ more. f (more, e))) (omega (arith, h .1))) ∙ ap decimal (sym (h .1)))
 
 module _ (text : List ℕ) (some : 0 < length text) (dollar : getD text 0 0 ≡ 36) where
   split : text ≡ 36 ∷ between 1 (length text) text

@@ -3,8 +3,11 @@ use crate::token::Token;
 use crate::token::next_token;
 ghost use mathlib.Core.Path.{_≡_};
 ghost use mathlib.Core.List.{_∷_};
-ghost use Prim.Native.Nat.{ℕ, _≤_};
+ghost use Prim.Native.Nat.{ℕ, _≤_, _<_};
+ghost use lib.Dec.{leb};
+ghost use lib.ListN.{length, getD};
 ghost use Rattle.std.specs.Options.{Cases};
+ghost use Rattle.std.specs.Orderings.{Decides};
 ghost use Rattle.std.specs.Written.{decimal};
 ghost use Rattle.grammar.specs.Grammar.{ReadsOn, NotNumber, NumberUpTo, OperandOf, MoreOf, OperandsOf};
 
@@ -24,6 +27,30 @@ pub enum Operands<'a> {
     Three(Operand<'a>, Operand<'a>, Operand<'a>),
 }
 
+// Whether a number may be so large.
+fn is_small(n: u32) -> bool
+    ensures { λ r. ⌜ r ≡ leb n 65535 ⌝ }
+{
+    n <= 65535
+}
+
+// Whether there is a register of this number.
+fn is_register_number(n: u32) -> bool
+    ensures { λ r. ⌜ r ≡ leb n 31 ⌝ }
+{
+    n <= 31
+}
+
+// Whether the digits have a zero in front that they do not need.
+fn is_padded(digits: &[u8]) -> bool
+    ensures { λ r. ⌜ Decides r ((1 < length (now (digits .entry))) × (getD (now (digits .entry)) 0 0 ≡ 48)) ⌝ }
+{
+    match digits {
+        [b'0', _, ..] => true,
+        _ => false,
+    }
+}
+
 // What the digits write behind those of `front`, or none where it passes 65535.
 fn number_on(front: u32, digits: &[u8]) -> Option<u32>
     requires { ⌜ front ≤ 65535 ⌝ }
@@ -36,7 +63,7 @@ fn number_on(front: u32, digits: &[u8]) -> Option<u32>
                 return None;
             }
             let value = front * 10 + u32::from(*first - b'0');
-            if value > 65535 {
+            if !is_small(value) {
                 return None;
             }
             number_on(value, rest)
@@ -48,11 +75,13 @@ fn number_on(front: u32, digits: &[u8]) -> Option<u32>
 fn number_of(digits: &[u8]) -> Option<u32>
     ensures { λ r. ⌜ Cases r (NotNumber 65535 (now (digits .entry))) (λ v. NumberUpTo 65535 (now (digits .entry)) v) ⌝ }
 {
-    match digits {
-        [] => None,
-        [b'0', rest @ ..] => { if rest.len() == 0 { Some(0) } else { None } }
-        [_, ..] => number_on(0, digits),
+    if digits.len() == 0 {
+        return None;
     }
+    if is_padded(digits) {
+        return None;
+    }
+    number_on(0, digits)
 }
 
 // The register with this name: a dollar sign and a number of at most 31.
@@ -62,7 +91,7 @@ fn register_of(text: &[u8]) -> Option<u32>
     match text {
         [b'$', digits @ ..] => {
             let n = number_of(digits)?;
-            if n > 31 { None } else { Some(n) }
+            if is_register_number(n) { Some(n) } else { None }
         }
         _ => None,
     }

@@ -1,6 +1,7 @@
 // The bytes of a line, cut into tokens that borrow them.
 ghost use mathlib.Core.Path.{_≡_};
 ghost use Prim.Native.Nat.{_≤_, _<_};
+ghost use lib.Dec.{leb};
 ghost use lib.ListN.{length};
 ghost use Rattle.std.specs.Options.{Cases};
 ghost use Rattle.std.specs.shelf.Lists.{leading};
@@ -84,6 +85,13 @@ pub fn run_len(bytes: &[u8], run: Run) -> usize
     bytes.len()
 }
 
+// Whether a name may have so many bytes.
+fn is_short(n: usize) -> bool
+    ensures { λ r. ⌜ r ≡ leb n 16 ⌝ }
+{
+    n <= 16
+}
+
 // A name at the front of the bytes, of at most sixteen bytes.
 fn name_token<'a>(bytes: &'a [u8], line: u32) -> Option<(Token<'a>, &'a [u8])>
     requires { ⌜ Opens Class.Letter (now bytes) ⌝ }
@@ -91,7 +99,7 @@ fn name_token<'a>(bytes: &'a [u8], line: u32) -> Option<(Token<'a>, &'a [u8])>
     ensures line { λ r. ⌜ Cases r (Unit {0}) (λ p. lineOf (p .0) ≡ line) ⌝ }
 {
     let n = run_len(bytes, Run::Name);
-    if n > 16 {
+    if !is_short(n) {
         return None;
     }
     Some((

@@ -13,6 +13,7 @@ use grammar::run_len;
 ghost use mathlib.Core.Path.{_≡_};
 ghost use mathlib.Core.List.{_++_};
 ghost use Prim.Native.Nat.{ℕ, _+_, _^_, _≤_, _<_};
+ghost use lib.Dec.{ltb};
 ghost use lib.ListN.{length, set, take, drop};
 ghost use Rattle.std.specs.Options.{mapped};
 ghost use Rattle.std.specs.Orderings.{Decides};
@@ -218,6 +219,13 @@ fn write_words(text: &[u8], table: &[Label], words: &mut [u32]) -> Result<(), Fa
     second_reading(text, table, words, Pass::Write)
 }
 
+// Whether a text has more bytes than it may have.
+fn is_too_long(text: &[u8]) -> bool
+    ensures { λ r. ⌜ r ≡ ltb 65535 (length (now (text .entry))) ⌝ }
+{
+    text.len() > 65535
+}
+
 // Assembles a text: its labels go into the table, its words are written only if all is well.
 pub fn assemble(text: &[u8], words: &mut [u32], labels: &mut [Label]) -> Result<Counts, Fault>
     ensures outcome { λ r. ⌜ Outcome (now (text .entry)) (now (words .entry)) (now (labels .entry)) r (now (words .exit)) (now (labels .exit)) ⌝ }
@@ -225,7 +233,7 @@ pub fn assemble(text: &[u8], words: &mut [u32], labels: &mut [Label]) -> Result<
     ensures formats { λ _. ⌜ WordFields ⌝ }
     ensures plain { λ r. ⌜ GivesBack (now (text .entry)) (now (words .entry)) (now (labels .entry)) r (now (words .exit)) ⌝ }
 {
-    if text.len() > 65535 {
+    if is_too_long(text) {
         return Err(Fault::TooLong);
     }
     let counts = first_reading(text, words.len(), labels)?;

@@ -1,11 +1,14 @@
-use mathlib.Core.Path.{refl}
+use mathlib.Core.Path.{refl, sym, _∙_}
 use borrow.Author.Needs.{needs}
 use Rattle.std.proofs.shelf.Results.{err-from-errBy}
+use Rattle.std.proofs.shelf.Tests.{ltb-true}
 use Rattle.text.proofs.Endings.{inside, ready, lost, done, settled}
 use Rattle.text.proofs.assembly.assemble.Needs as need
 
-pub returns-then-text-gt65535 : need.returns-then-text-gt65535
-returns-then-text-gt65535 c = settled (c .args .text .now) (c .args .words .now) (c .args .labels .now) _ _ _ (c .if-text-gt65535 .taken, refl, refl)
+pub returns-then-is-too-long : need.returns-then-is-too-long
+returns-then-is-too-long c =
+    let long = ltb-true 65535 _ (sym (c .is-too-long .ensures) ∙ c .if-is-too-long .taken) in
+    settled (c .args .text .now) (c .args .words .now) (c .args .labels .now) _ _ _ (long, refl, refl)
 
 pub returns-in-Break-counts : need.returns-in-Break-counts
 returns-in-Break-counts c =
