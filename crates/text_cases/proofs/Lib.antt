@@ -1,0 +1,2 @@
+pub mod LabelLines
+pub mod Passed
