@@ -32,3 +32,25 @@ pub fn report_on(heap: Global, text: &[u8]) -> Result<Report, AllocError>
         Err(fault) => Ok(Report::Refused(refusal_line(heap, &fault.refusal())?)),
     }
 }
+
+#[cfg(test)]
+mod tests {
+    use super::*;
+    use std::test::*;
+
+    #[test]
+    fn words(rt: LibcRuntime) -> Result<(), Fail> {
+        match report_on(rt.alloc(), b"add $17, $16, $0\ndone\n")? {
+            Report::Words(lines) => check_eq(lines.as_slice(), b"01800\na0000\n"),
+            Report::Refused(_) => Err(Fail::new("a good text is refused")),
+        }
+    }
+
+    #[test]
+    fn refusal(rt: LibcRuntime) -> Result<(), Fail> {
+        match report_on(rt.alloc(), b"nop\nadd $3, $1, $2\n")? {
+            Report::Words(_) => Err(Fail::new("a bad text has words")),
+            Report::Refused(line) => check_eq(line.as_str(), "refused 21 at line 2\n"),
+        }
+    }
+}
