@@ -44,13 +44,7 @@ module _ (text words : List ℕ) (labels labels′ : List Label) (c : Counts) (h
         at (Unknown n) r = record {
           state = h .0;
           whole = h .1;
-          front = r .0 .front;
-          lost = r .0 .lost;
-          back = r .0 .back;
-          cut = r .0 .cut;
-          known = r .0 .known;
-          unknown = r .0 .unknown;
-          number = r .0 .number;
+          first = r .0;
           words-stay = r .1 refl;
           labels-are = h .4;
         }

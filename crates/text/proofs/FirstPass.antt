@@ -21,9 +21,9 @@ use Rattle.grammar.specs.Bytes.{goesOn}
 use Rattle.grammar.specs.Forms.{Ins}
 use Rattle.grammar.specs.Lines.{Says, labelIn, codeIn}
 use Rattle.text.specs.Table.{Within}
-use Rattle.text.specs.Outcome.{LineAt, Code, State, start, size, defined, coded, Fresh, Places, Room, after, Step, Lines, none, then, entered, Stopped, Whole, Outcome}
+use Rattle.text.specs.Outcome.{LineAt, Code, State, start, size, labelled, defined, coded, Fresh, Places, Room, after, Step, Lines, none, then, entered, Stopped, Whole, Outcome}
 use Rattle.grammar.proofs.Fronts.{label-place}
-use Rattle.text.specs.Passes.{Filled, Checked, labelled, counted, FirstRead}
+use Rattle.text.specs.Passes.{Filled, Checked, counted, FirstRead}
 
 -- the lines before place `at` are good, and counts and table stand for what they left
 pub record Sofar (text : List ℕ) (W : ℕ) (old : List Label) (at line : ℕ) (c : Counts) (labels : List Label) : Type 0 where

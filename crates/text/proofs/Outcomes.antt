@@ -195,7 +195,8 @@ module _ (text words : List ℕ) (labels : List Label) where
 
     lost-not-resolved : Lost text words labels line w l → Resolves → ⊥
     lost-not-resolved h (s, k, known) =
-        h .unknown (all-at (Known text (h .state)) (h .lost) (h .front) (h .back) (rw (h .cut) at (rw (← whole-one _ s (h .whole) k) at known)))
+        let f = h .first in
+        f .unknown (all-at (Known text (h .state)) (f .lost) (f .front) (f .back) (rw (f .cut) at (rw (← whole-one _ s (h .whole) k) at known)))
 
   -- the four kinds of outcomes, and three questions that tell them apart
   module _ (r : Result Counts Fault) (w : List ℕ) (l : List Label) where
@@ -246,7 +247,9 @@ module _ (text words : List ℕ) (labels : List Label) where
     lost-one : IsLost r wr lr → IsLost q wq lq → Same
     lost-one (line, e, h) (number, d, k) =
         let state = whole-one _ _ (h .whole) (k .whole) in
-        let lost = first-one (Known text (k .state)) (h .lost) (k .lost) (h .front) (k .front) (h .back) (k .back) (cc) (rw state at (h .known)) (k .known) (rw state at (h .unknown)) (k .unknown) in
+        let f = h .first in
+        let g = k .first in
+        let lost = first-one (Known text (k .state)) (f .lost) (g .lost) (f .front) (g .front) (f .back) (g .back) (cc) (rw state at (f .known)) (g .known) (rw state at (f .unknown)) (g .unknown) in
         (cc, cc, cc)
 
     done-one : IsDone r wr lr → IsDone q wq lq → Same

@@ -21,8 +21,8 @@ use Rattle.text.specs.declared.table.Label.{Label}
 use Rattle.grammar.specs.Forms.{Ins, ins, Formed}
 use Rattle.grammar.specs.Lines.{Says}
 use Rattle.text.specs.Table.{Within, Resolved, wordIn, WordFor}
-use Rattle.text.specs.Outcome.{LineAt, Code, State, start, coded, after, Step, Lines, none, then, Whole, Known}
-use Rattle.text.specs.Passes.{CodeIn, Ready, Leaves, wordsOf, FirstLost, SecondRead, WordsRead}
+use Rattle.text.specs.Outcome.{LineAt, Code, State, start, coded, after, Step, Lines, none, then, Whole, Known, FirstLost}
+use Rattle.text.specs.Passes.{CodeIn, Ready, Leaves, wordsOf, SecondRead, WordsRead}
 use Rattle.text.proofs.FirstPass.{lines-names, size-coded}
 use Rattle.text.proofs.Outcomes.{line-one, whole-one, whole-step, whole-front, all-at}
 use Rattle.grammar.proofs.Readings.{says-one}

@@ -45,10 +45,14 @@ abbrev pub size : {X : Type 0} → Option X → ℕ
 size None = 0
 size (Some x) = 1
 
+-- an entry of the table, if there is a label
+abbrev pub labelled : ℕ → ℕ → Option (List ℕ) → List Label
+labelled place address None = []
+labelled place address (Some n) = record { place = place; length = length n; address = address } ∷ []
+
 -- the label of a line, behind the spaces that begin it
 abbrev pub defined : ℕ → List ℕ → ℕ → Option (List ℕ) → List Label
-defined at bytes address None = []
-defined at bytes address (Some n) = record { place = at + leading (goesOn run.Spaces) bytes; length = length n; address = address } ∷ []
+defined at bytes address label = labelled (at + leading (goesOn run.Spaces) bytes) address label
 
 abbrev pub coded : ℕ → Option Ins → List Code
 coded line None = []
@@ -129,17 +133,21 @@ pub record Whole (text : List ℕ) (W L : ℕ) (s : State) : Type 0 where
 abbrev pub Known : List ℕ → State → Code → Type 0
 Known text s c = Resolved text (s .defs) (c .ins)
 
+-- the first instruction whose label is not known is on this line
+pub record FirstLost (text : List ℕ) (s : State) (line : ℕ) : Type 0 where
+  pub front : List Code
+  pub lost : Code
+  pub back : List Code
+  pub cut : s .code ≡ front ++ lost ∷ back
+  pub known : All (Known text s) front
+  pub unknown : Known text s lost → ⊥
+  pub number : line ≡ lost .line
+
 -- all lines are good, and this is the first that uses a label in vain
 pub record Lost (text words : List ℕ) (labels : List Label) (line : ℕ) (words′ : List ℕ) (labels′ : List Label) : Type 0 where
   pub state : State
   pub whole : Whole text (length words) (length labels) state
-  pub front : List Code
-  pub lost : Code
-  pub back : List Code
-  pub cut : state .code ≡ front ++ lost ∷ back
-  pub known : All (Known text state) front
-  pub unknown : Known text state lost → ⊥
-  pub number : line ≡ lost .line
+  pub first : FirstLost text state line
   pub words-stay : words′ ≡ words
   pub labels-are : labels′ ≡ entered state labels
 

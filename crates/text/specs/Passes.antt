@@ -20,7 +20,7 @@ use Rattle.text.specs.declared.table.Label.{Label}
 use Rattle.grammar.specs.Forms.{Ins, ins, Formed}
 use Rattle.grammar.specs.Lines.{Says, labelIn, codeIn}
 use Rattle.text.specs.Table.{Within, wordIn}
-use Rattle.text.specs.Outcome.{Code, State, Lines, Whole, Known, Fresh, size, Places, Foreign, Repeats, Crowded, entered, Outcome}
+use Rattle.text.specs.Outcome.{Code, State, Lines, Whole, Known, Fresh, size, Places, Foreign, Repeats, Crowded, entered, FirstLost, Outcome}
 
 -- the labels that are entered, and their names lie in the text
 pub record Filled (text : List ℕ) (c : Counts) (labels : List Label) : Type 0 where
@@ -35,11 +35,6 @@ Checked text W L defs c bytes line (Err (Grammar n)) = (n ≡ line) × Foreign b
 Checked text W L defs c bytes line (Err (Twice n)) = (n ≡ line) × Repeats text defs bytes
 Checked text W L defs c bytes line (Err (NoRoom n)) = (n ≡ line) × Crowded text defs (Places W L (c .words) (c .labels)) bytes
 Checked text W L defs c bytes line (Err (Unknown n)) = ⊥
-
--- a label at this place with the address of the next word
-abbrev pub labelled : ℕ → ℕ → Option (List ℕ) → List Label
-labelled place address None = []
-labelled place address (Some n) = record { place = place; length = length n; address = address } ∷ []
 
 abbrev pub counted : Counts → Line → Counts
 counted c x = record { words = c .words + size (codeIn x); labels = c .labels + size (labelIn x) }
@@ -65,16 +60,6 @@ Leaves Write new old now = now ≡ new
 
 abbrev pub wordsOf : List ℕ → State → List Code → List ℕ
 wordsOf text s cs = map (λ c. wordIn text (s .defs) (c .ins)) cs
-
--- the first instruction of these whose label is not known is on this line
-pub record FirstLost (text : List ℕ) (s : State) (line : ℕ) : Type 0 where
-  pub front : List Code
-  pub lost : Code
-  pub back : List Code
-  pub cut : s .code ≡ front ++ lost ∷ back
-  pub known : All (Known text s) front
-  pub unknown : Known text s lost → ⊥
-  pub number : line ≡ lost .line
 
 -- what a second reading finds
 abbrev pub SecondRead : List ℕ → State → Pass → Result (Unit {0}) Fault → List ℕ → List ℕ → Type 0
