@@ -1,4 +1,5 @@
 // One line of shader text: its tokens, its operands, and what it says.
+#![tactic(auto)]
 mod instruction;
 mod line;
 mod operand;

@@ -1,4 +1,5 @@
 // The lines that the programs print, as values: the words of a program, and one refusal.
+#![tactic(auto)]
 ghost use Rattle.std.specs.Prelude.{◌≡◌, ◌%◌, IfOk, string_bytes};
 ghost use Rattle.std.specs.List.{flat_map};
 ghost use Rattle.listing.specs.Lines.{hex_digit, word_line, LowerHex, hex_value, Reads, place_word, refusal_line};

@@ -1,4 +1,5 @@
 // The noise that dithers colours: 144 bits that step by a shift and four taps.
+#![tactic(auto)]
 mod dither;
 mod law;
 mod register;

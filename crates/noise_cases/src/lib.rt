@@ -1,4 +1,5 @@
 // Examples of noise: runs beside a plain array of bits, channels at their edges, colours.
+#![tactic(auto)]
 #[cfg(test)]
 mod colours;
 #[cfg(test)]

@@ -1,4 +1,5 @@
 // Shader text to program words.
+#![tactic(auto)]
 mod assembly;
 mod fault;
 mod table;

@@ -1,4 +1,5 @@
 // Examples of the shader assembler: what a text must give, with the values that tests compare.
+#![tactic(auto)]
 ghost use Rattle.std.specs.Prelude.{◌≡◌, IfOk, string_bytes};
 ghost use Rattle.text_cases.specs.Answers.{Answered};
 ghost use Rattle.text_cases.specs.Places.{parts_of};

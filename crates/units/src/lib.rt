@@ -1,4 +1,5 @@
 // The arithmetic units of the shader core: what a unit is, and two of them, half and single.
+#![tactic(auto)]
 mod half;
 mod pattern;
 mod single;

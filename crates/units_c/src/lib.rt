@@ -1,4 +1,5 @@
 // The two units' functions for C: each is the method of its name.
+#![tactic(auto)]
 ghost use Rattle.std.specs.Prelude.{◌≡◌};
 ghost use Rattle.units.specs.Rules.{half, single};
 
