@@ -7,5 +7,5 @@ use Rattle.listing.proofs.word_lines.Goals as goal
 pub loop-word-init : goal.loop-word-init
 loop-word-init c = (search rules, grows _)
 
-pub returns-in-err-extend-from-slice : goal.returns-in-err-extend-from-slice
-returns-in-err-extend-from-slice c = search (rules, IfOk-from_err)
+pub returns-in_err-extend_from_slice : goal.returns-in_err-extend_from_slice
+returns-in_err-extend_from_slice c = search (rules, IfOk-from_err)
