@@ -1,11 +1,11 @@
 -- The operands of a line, token by token.
-use Rattle.std.proofs.Common.{◌≡◌, ℕ, suc, ◌<◌, ◌≤◌, List, [], ◌∷◌, length, Some, None, Option, sym, refl, ap, ◌∙◌, subst, arith, Bor, rules, MatchOption}
+use Rattle.std.proofs.Common.{◌≡◌, ℕ, suc, ◌≤◌, List, [], ◌∷◌, length, Some, None, Option, sym, refl, ap, subst, arith, Bor, MatchOption}
 use Rattle.std.specs.List.{AllByRecursion as All}
 use Rattle.grammar.specs.declared.operand.Operand.{Operand}
 use Rattle.grammar.specs.declared.token.Token.{Token}
 use Rattle.grammar.specs.declared.token.Token.TheVariants.{Name, Number, Register, Comma, Colon, End}
-use Rattle.grammar.specs.Tokens.{Tok, name, number, register, comma, colon, Next, Ends, Spelled, seen, Lexes, NoToken}
-use Rattle.grammar.specs.Grammar.{Opd, opd, reg, num, lab, InRange, token, tailed, listed, OperandOf, MoreOf}
+use Rattle.grammar.specs.Tokens.{Tok, name, comma, colon, Next, Ends, Spelled, seen, Lexes, NoToken}
+use Rattle.grammar.specs.Grammar.{Opd, opd, InRange, token, tailed, listed, OperandOf, MoreOf}
 use Rattle.grammar.proofs.Fronts.{next_one, next_or_end}
 
 module _ (bs : List ℕ) where

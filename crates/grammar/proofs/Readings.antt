@@ -1,16 +1,14 @@
 -- A line is read in one way only.
-use Rattle.std.proofs.Common.{◌≡◌, ℕ, ◌+◌, ◌*◌, ◌≤◌, cond, eqb, List, [], ◌∷◌, ◌++◌, get_or, IfSome, Some, None, decimal, Option, sym, refl, ap, ◌∙◌, subst, ap₂, arith, MatchOption}
+use Rattle.std.proofs.Common.{◌≡◌, ℕ, ◌+◌, ◌*◌, cond, eqb, List, [], ◌∷◌, get_or, IfSome, Some, None, decimal, Option, sym, refl, ap, ◌∙◌, subst, ap₂, arith, MatchOption}
 use Rattle.std.specs.List.{AllByRecursion as All}
-use Rattle.grammar.specs.declared.instruction.Binary.{Binary}
 use Rattle.grammar.specs.declared.instruction.Binary.TheVariants.{Add, Sub, Mul, Div}
-use Rattle.grammar.specs.declared.instruction.Unary.{Unary}
 use Rattle.grammar.specs.declared.instruction.Unary.TheVariants.{Floor, Abs, Sqrt}
 use Rattle.grammar.specs.declared.instruction.Mnemonic.{Mnemonic}
 use Rattle.grammar.specs.declared.instruction.Mnemonic.TheVariants as mnemonic
 use Rattle.grammar.specs.declared.instruction.Instruction.{Instruction}
-use Rattle.grammar.specs.Tokens.{Tok, name, number, register, comma, colon, Next, Ends, NoToken, Spelled}
+use Rattle.grammar.specs.Tokens.{Tok, name, colon, Next, Ends, NoToken, Spelled}
 use Rattle.grammar.specs.Grammar.{Opd, reg, num, lab, InRange, token, tailed, listed}
-use Rattle.grammar.specs.Forms.{spelling, Ins, binary, unary, cmov, bltz, setx, loop, done, nop, ins, mnemonic_of, operands_of, Kinds, Formed, FormedBy, Written, CodeAt}
+use Rattle.grammar.specs.Forms.{spelling, Ins, binary, unary, cmov, bltz, setx, loop, done, nop, mnemonic_of, operands_of, Formed, FormedBy, Written, CodeAt}
 use Rattle.grammar.specs.Lines.{code_tokens, Says}
 use Rattle.grammar.proofs.Fronts.{next_one, next_or_end, spelled_one}
 use Rattle.grammar.proofs.Lists.{read_next, read_end}

@@ -1,5 +1,5 @@
 -- The instructions: how each is named, and what its operands are.
-use Rattle.std.specs.Prelude.{◌≡◌, ℕ, ◌≤◌, Bool, true, false, List, [], ◌∷◌, ◌++◌, Some, None, codes, Option, MatchOption, ◌≢◌, nat_le}
+use Rattle.std.specs.Prelude.{◌≡◌, ℕ, ◌≤◌, Bool, true, false, List, [], ◌∷◌, codes, Option, MatchOption, ◌≢◌, nat_le}
 use Rattle.std.specs.List.{AllByRecursion as All}
 use Rattle.grammar.specs.declared.instruction.Binary.{Binary}
 use Rattle.grammar.specs.declared.instruction.Binary.TheVariants.{Add, Sub, Mul, Div}
@@ -11,9 +11,8 @@ use Rattle.grammar.specs.declared.instruction.Instruction.{Instruction}
 use Rattle.grammar.specs.declared.instruction.Instruction.TheVariants as instruction
 use Rattle.grammar.specs.declared.operand.Operand.{Operand}
 use Rattle.grammar.specs.declared.operand.Operand.TheVariants.{Register, Number, Label}
-use Rattle.grammar.specs.declared.operand.Operands.{Operands}
-use Rattle.grammar.specs.Tokens.{Tok, name, Spelled}
-use Rattle.grammar.specs.Grammar.{Opd, reg, num, lab, opd, opds, InRange, listed}
+use Rattle.grammar.specs.Tokens.{Spelled}
+use Rattle.grammar.specs.Grammar.{Opd, reg, num, lab, opd, InRange, listed}
 
 -- the name of an instruction
 abbrev pub spelling : Mnemonic → List ℕ

@@ -1,5 +1,5 @@
 -- What a line of shader text says: a label or none, an instruction or none.
-use Rattle.std.specs.Prelude.{◌≡◌, ℕ, ◌+◌, ◌-◌, ◌*◌, ◌<◌, ◌≤◌, true, List, [], ◌∷◌, ◌++◌, map, length, Some, None, decimal, Option, MatchOption, ◌≢◌}
+use Rattle.std.specs.Prelude.{◌≡◌, ℕ, ◌+◌, ◌-◌, ◌*◌, ◌<◌, ◌≤◌, true, List, [], ◌∷◌, length, Some, None, decimal, Option, MatchOption, ◌≢◌}
 use Rattle.std.specs.Borrow.{Bor}
 use Rattle.std.specs.List.{AllByRecursion as All}
 use Rattle.std.specs.Str.{all_ascii_digits}
@@ -8,7 +8,7 @@ use Rattle.grammar.specs.declared.operand.Operand.{Operand}
 use Rattle.grammar.specs.declared.operand.Operand.TheVariants.{Register, Number, Label}
 use Rattle.grammar.specs.declared.operand.Operands.{Operands}
 use Rattle.grammar.specs.declared.operand.Operands.TheVariants.{Zero, One, Two, Three}
-use Rattle.grammar.specs.Tokens.{Tok, name, number, register, comma, colon, seen, Next, Ends, Spelled}
+use Rattle.grammar.specs.Tokens.{Tok, name, number, register, comma, seen, Next, Ends, Spelled}
 
 -- the number that decimal digits write behind those of n
 abbrev pub read_on : ℕ → List ℕ → ℕ

@@ -1,5 +1,6 @@
 // One line of shader text: its tokens, its operands, and what it says.
 #![tactic(auto)]
+
 mod instruction;
 mod line;
 mod operand;

@@ -4,18 +4,18 @@ use Rattle.grammar.proofs.Lists.{lexed, not_end, not_name}
 use Rattle.grammar.proofs.Readings.{code_none, code_other, code_unnamed}
 use Rattle.grammar.proofs.line.code_from.Goals as goal
 
-pub returns-in-err-first : goal.returns-in-err-first
-returns-in-err-first c = rw c.from-residual.ensures (code_none c.args.bytes.now c.in-err-first.ensures.fronts)
+pub returns-in_err-first : goal.returns-in_err-first
+returns-in_err-first c = rw c.from_residual.ensures (code_none c.args.bytes.now c.in_err-first.ensures.fronts)
 
-pub returns-in-err-code-at : goal.returns-in-err-code-at
-returns-in-err-code-at c =
-    let first = c.in-ok-first in
+pub returns-in_err-code_at-in-Name : goal.returns-in_err-code_at-in-Name
+returns-in_err-code_at-in-Name c =
+    let first = c.in_ok-first in
     let n = c.in-Name.text.now in
-    rw c.from-residual-in-err-code-at.ensures
+    rw c.from_residual-in_err-code_at-in-Name.ensures
     (code_unnamed c.args.bytes.now n first.rest.now
-    (lexed c.args.bytes.now first.first first.rest.now (name n) first.ensures.fronts (ap seen c.in-Name.is)) c.in-err-code-at.ensures)
+    (lexed c.args.bytes.now first.first first.rest.now (name n) first.ensures.fronts (ap seen c.in-Name.is)) c.in_err-code_at-in-Name.ensures)
 
-pub returns-in-default : goal.returns-in-default
-returns-in-default c =
-    let first = c.in-ok-first in
-    code_other c.args.bytes.now (seen first.first) first.rest.now first.ensures.fronts (not_end first.first c.in-default.not-End) (λ n. not_name first.first n c.in-default.not-Name)
+pub returns-in_default : goal.returns-in_default
+returns-in_default c =
+    let first = c.in_ok-first in
+    code_other c.args.bytes.now (seen first.first) first.rest.now first.ensures.fronts (not_end first.first c.in_default.not-End) (λ n. not_name first.first n c.in_default.not-Name)

@@ -10,4 +10,4 @@ pub returns-in-Colon : goal.returns-in-Colon
 returns-in-Colon c = record { fronts = simp take_rest (next_colon c.args.bytes.now (search rules)); line = refl }
 
 pub returns-in-Underscore : goal.returns-in-Underscore
-returns-in-Underscore c = record { fronts = no_token c.args.bytes.now c.class-of.result c.requires (search rules) c.in-Underscore.is; line = tt }
+returns-in-Underscore c = record { fronts = no_token c.args.bytes.now c.class_of.result c.requires (search rules) c.in-Underscore.is; line = tt }

@@ -2,14 +2,14 @@ use Rattle.grammar.specs.declared.token.Run.TheVariants.{Spaces}
 use Rattle.grammar.proofs.Fronts.{runs_leading, front_read, fronts_behind}
 use Rattle.grammar.proofs.token.next_token.Goals as goal
 
-pub front-token-requires : goal.front-token-requires
-front-token-requires c =
-    rw (front_read c.args.bytes.now c.run-len-n.result c.run-len-n.ensures.value) (runs_leading Spaces c.args.bytes.now).1
+pub front_token-requires : goal.front_token-requires
+front_token-requires c =
+    rw (front_read c.args.bytes.now c.run_len-n.result c.run_len-n.ensures.value) (runs_leading Spaces c.args.bytes.now).1
 
 pub returns : goal.returns
 returns c =
-    let told = c.front-token.ensures in
+    let told = c.front_token.ensures in
     record {
-      fronts = fronts_behind c.args.bytes.now c.front-token.result (rw (front_read c.args.bytes.now c.run-len-n.result c.run-len-n.ensures.value) at told.fronts);
+      fronts = fronts_behind c.args.bytes.now c.front_token.result (rw (front_read c.args.bytes.now c.run_len-n.result c.run_len-n.ensures.value) at told.fronts);
       line = told.line;
     }

@@ -5,4 +5,4 @@ use Rattle.grammar.proofs.Fronts.{next_number}
 use Rattle.grammar.proofs.token.number_token.Goals as goal
 
 pub returns : goal.returns
-returns c = record { lexes = simp (sub-zero, take_rest) (next_number c.args.bytes.now c.run-len-n.result c.run-len-n.ensures.value c.requires); line = refl }
+returns c = record { lexes = simp (sub-zero, take_rest) (next_number c.args.bytes.now c.run_len-n.result c.run_len-n.ensures.value c.requires); line = refl }
