@@ -1,11 +1,11 @@
 -- The two readings together: every text has its outcome.
-use Rattle.std.proofs.Common.{◌≡◌, ℕ, ◌-◌, ◌≤◌, List, ◌++◌, length, take, drop, Ok, Err, Result, sym, refl, ap, ◌∙◌, subst, arith, length-append}
+use Rattle.std.proofs.Common.{◌≡◌, ℕ, ◌-◌, ◌≤◌, List, length, take, drop, Ok, Err, Result, sym, refl, ap, ◌∙◌, arith, length-append}
 use Rattle.std.proofs.lemmas.List.{take_at}
 use Rattle.text.specs.declared.fault.Fault.{Fault}
 use Rattle.text.specs.declared.fault.Fault.TheVariants.{TooLong, Grammar, Twice, NoRoom, Unknown}
 use Rattle.text.specs.declared.table.Counts.{Counts}
 use Rattle.text.specs.declared.table.Label.{Label}
-use Rattle.text.specs.Outcome.{State, Whole, Lost, Assembled, Outcome, OneOutcome}
+use Rattle.text.specs.Outcome.{State, Whole, Outcome, OneOutcome}
 use Rattle.text.specs.Passes.{FirstRead, Ready, WordsRead}
 use Rattle.text.specs.Plain.{GivesBack}
 use Rattle.text.specs.Words.{WordFields}

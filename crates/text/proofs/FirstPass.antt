@@ -1,5 +1,5 @@
 -- The first reading: the lines so far are good, and their labels are entered.
-use Rattle.std.proofs.Common.{◌≡◌, ℕ, zero, suc, ◌+◌, ◌-◌, ◌<◌, ◌≤◌, List, [], ◌∷◌, ◌++◌, length, take, drop, Some, None, Ok, Err, Option, Result, sym, refl, ap, ◌∙◌, subst, ap₂, append_assoc, arith, length-append, length-drop}
+use Rattle.std.proofs.Common.{◌≡◌, ℕ, suc, ◌+◌, ◌<◌, ◌≤◌, List, [], ◌∷◌, ◌++◌, length, take, drop, Some, None, Ok, Err, Option, sym, refl, ap, ◌∙◌, subst, ap₂, append_assoc, arith, length-append, length-drop}
 use Rattle.std.proofs.lemmas.List.{take_at, drop_at, drop-drop}
 use Rattle.std.proofs.ByRecursion.{All-append}
 use Rattle.std.specs.List.{prefix_len, AllByRecursion as All}
@@ -13,7 +13,7 @@ use Rattle.grammar.specs.Bytes.{goes_on}
 use Rattle.grammar.specs.Forms.{Ins}
 use Rattle.grammar.specs.Lines.{Says, label_in, code_in}
 use Rattle.text.specs.Table.{Within}
-use Rattle.text.specs.Outcome.{LineAt, Code, State, start, size, labelled, defined, coded, Fresh, Places, Room, after, Step, Lines, none, then, entered, Stopped, Whole, Outcome}
+use Rattle.text.specs.Outcome.{LineAt, State, start, size, labelled, defined, coded, Fresh, Places, Room, after, Lines, none, then, entered, Stopped}
 use Rattle.grammar.proofs.Fronts.{label_place}
 use Rattle.text.specs.Passes.{Filled, Checked, counted, FirstRead}
 
@@ -130,8 +130,8 @@ module _ {text : List ℕ} {W : ℕ} {old : List Label} {at line : ℕ} {c : Cou
   stops bytes n (Unknown m) short t e k words w = absurd k
 
   -- one more good line
-  pub goes_on : (bytes : List ℕ) (n to place : ℕ) (x : Line) (labels' : List Label) → LineAt text at bytes → n ≡ suc line → to ≡ at + length bytes + 1 → place ≡ at + prefix_len (goes_on run.Spaces) bytes → Checked text W (length labels) (take c.labels labels) c bytes n (Ok x) → labels' ≡ take c.labels labels ++ (labelled place c.words (label_in x) ++ drop (c.labels + size (label_in x)) labels) → Sofar text W old to n (counted c x) labels'
-  goes_on bytes n to place x labels' t e f p k write =
+  pub goes_on_lem : (bytes : List ℕ) (n to place : ℕ) (x : Line) (labels' : List Label) → LineAt text at bytes → n ≡ suc line → to ≡ at + length bytes + 1 → place ≡ at + prefix_len (goes_on run.Spaces) bytes → Checked text W (length labels) (take c.labels labels) c bytes n (Ok x) → labels' ≡ take c.labels labels ++ (labelled place c.words (label_in x) ++ drop (c.labels + size (label_in x)) labels) → Sofar text W old to n (counted c x) labels'
+  goes_on_lem bytes n to place x labels' t e f p k write =
       let label = label_in x in
       let code = code_in x in
       let new = defined h.state.at bytes (length h.state.code) label in

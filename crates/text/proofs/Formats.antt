@@ -1,12 +1,8 @@
 -- The fields of a word are what was put into them.
 use Rattle.std.proofs.Common.{◌≡◌, ℕ, ◌+◌, ◌*◌, ◌/◌, ◌%◌, ◌^◌, ◌≤◌, arith}
-use Rattle.grammar.specs.declared.instruction.Binary.{Binary}
-use Rattle.grammar.specs.declared.instruction.Binary.TheVariants.{Add, Sub, Mul, Div}
-use Rattle.grammar.specs.declared.instruction.Unary.{Unary}
-use Rattle.grammar.specs.declared.instruction.Unary.TheVariants.{Floor, Abs, Sqrt}
 use Rattle.grammar.specs.Grammar.{Opd, reg, num, lab, InRange}
-use Rattle.grammar.specs.Forms.{Ins, binary, unary, cmov, bltz, setx, loop, done, nop, Destination, Source, Count, Target, Formed}
-use Rattle.text.specs.Words.{binary_code, unary_code, value, packed, Packed, Branches, Numbered, word_of, Fields, WordFields}
+use Rattle.grammar.specs.Forms.{binary, unary, cmov, bltz, setx, loop, done, nop, Destination, Source, Count, Target}
+use Rattle.text.specs.Words.{binary_code, unary_code, value, packed, Packed, Branches, Numbered, WordFields}
 
 packed_fields : (code d a b : ℕ) → 16 ≤ d → d ≤ 31 → a ≤ 31 → b ≤ 31 → Packed code d a b (packed code d a b)
 packed_fields code d a b low high ha hb = record { code_is = omega arith; destination_is = omega arith; a_is = omega arith; b_is = omega arith; rest_is = omega arith }

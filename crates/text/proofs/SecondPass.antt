@@ -1,8 +1,8 @@
 -- The second reading: the labels of the lines so far are known, and their words are written.
-use Rattle.std.proofs.Common.{◌≡◌, ℕ, suc, ◌+◌, ◌-◌, ◌<◌, ◌≤◌, List, [], ◌∷◌, ◌++◌, map, length, get_or, take, drop, set, IfSome, Some, None, Ok, Err, Option, Result, sym, refl, ap, ◌∙◌, subst, ap₂, append_assoc, append-nil, arith, length-append}
+use Rattle.std.proofs.Common.{◌≡◌, ℕ, suc, ◌+◌, ◌<◌, ◌≤◌, List, [], ◌∷◌, ◌++◌, length, drop, set, IfSome, Some, None, Ok, Err, Option, Result, sym, refl, ap, ◌∙◌, subst, ap₂, append_assoc, append-nil, arith, length-append}
 use Rattle.std.specs.Option.{option_map}
 use Rattle.std.specs.List.{AllByRecursion as All}
-use Rattle.std.proofs.ByRecursion.{All-append, All-push}
+use Rattle.std.proofs.ByRecursion.{All-push}
 use Rattle.std.proofs.lemmas.List.{drop_more, set_at, map_push, length-map}
 use Rattle.text.specs.declared.assembly.Pass.{Pass}
 use Rattle.text.specs.declared.assembly.Pass.TheVariants.{Check, Write}
@@ -10,14 +10,13 @@ use Rattle.text.specs.declared.fault.Fault.{Fault}
 use Rattle.text.specs.declared.fault.Fault.TheVariants.{TooLong, Grammar, Twice, NoRoom, Unknown}
 use Rattle.grammar.specs.declared.instruction.Instruction.{Instruction}
 use Rattle.text.specs.declared.table.Label.{Label}
-use Rattle.grammar.specs.Forms.{Ins, ins, Formed}
+use Rattle.grammar.specs.Forms.{ins, Formed}
 use Rattle.grammar.specs.Lines.{Says}
-use Rattle.text.specs.Table.{Within, Resolved, word_in, WordFor}
-use Rattle.text.specs.Outcome.{LineAt, Code, State, start, coded, after, Step, Lines, none, then, Whole, Known, FirstLost}
-use Rattle.text.specs.Passes.{CodeIn, Ready, Leaves, words_of, SecondRead, WordsRead}
-use Rattle.text.proofs.FirstPass.{lines_names, size_coded}
+use Rattle.text.specs.Table.{Resolved, word_in, WordFor}
+use Rattle.text.specs.Outcome.{LineAt, Code, State, start, coded, Step, Lines, none, then, Whole, Known}
+use Rattle.text.specs.Passes.{CodeIn, Leaves, words_of, SecondRead, WordsRead}
+use Rattle.text.proofs.FirstPass.{size_coded}
 use Rattle.text.proofs.Outcomes.{line_one, whole_one, whole_step, whole_front, all_at}
-use Rattle.grammar.proofs.Readings.{says_one}
 
 pub formed_code : (o : Option Instruction) → IfSome (option_map ins o) Formed → IfSome o (λ x. Formed (ins x))
 formed_code None f = tt

@@ -1,5 +1,5 @@
 -- What the two readings of a text promise each other.
-use Rattle.std.specs.Prelude.{◌≡◌, ℕ, ◌+◌, ◌≤◌, List, [], ◌∷◌, ◌++◌, map, length, take, drop, IfSome, Some, None, Ok, Err, Option, Result}
+use Rattle.std.specs.Prelude.{◌≡◌, ℕ, ◌+◌, ◌≤◌, List, ◌++◌, map, length, take, drop, IfSome, Ok, Err, Option, Result}
 use Rattle.std.specs.Option.{option_map}
 use Rattle.std.specs.List.{AllByRecursion as All}
 use Rattle.text.specs.declared.assembly.Pass.{Pass}
@@ -13,7 +13,7 @@ use Rattle.text.specs.declared.table.Label.{Label}
 use Rattle.grammar.specs.Forms.{Ins, ins, Formed}
 use Rattle.grammar.specs.Lines.{Says, label_in, code_in}
 use Rattle.text.specs.Table.{Within, word_in}
-use Rattle.text.specs.Outcome.{Code, State, Lines, Whole, Known, Fresh, size, Places, Foreign, Repeats, Crowded, entered, FirstLost, Outcome}
+use Rattle.text.specs.Outcome.{Code, State, Whole, Known, Fresh, size, Places, Foreign, Repeats, Crowded, entered, FirstLost, Outcome}
 
 -- the labels that are entered, and their names lie in the text
 pub record Filled (text : List ℕ) (c : Counts) (labels : List Label) : Type 0 where

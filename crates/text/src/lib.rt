@@ -1,5 +1,6 @@
 // Shader text to program words.
 #![tactic(auto)]
+
 mod assembly;
 mod fault;
 mod table;

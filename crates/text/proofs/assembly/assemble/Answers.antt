@@ -4,35 +4,35 @@ use Rattle.std.proofs.lemmas.Bool.{ltb-true}
 use Rattle.text.proofs.Endings.{inside, ready, lost, done, settled}
 use Rattle.text.proofs.assembly.assemble.Goals as goal
 
-pub returns-then-is-too-long : goal.returns-then-is-too-long
-returns-then-is-too-long c =
-    let long = ltb-true 65535 _ (sym c.is-too-long.ensures ∙ c.if-is-too-long.true) in
+pub returns-then-is_too_long : goal.returns-then-is_too_long
+returns-then-is_too_long c =
+    let long = ltb-true 65535 _ (sym c.is_too_long.ensures ∙ c.if-is_too_long.true) in
     settled c.args.text.now c.args.words.now c.args.labels.now _ _ _ (long, refl, refl)
 
-pub returns-in-err-counts : goal.returns-in-err-counts
-returns-in-err-counts c =
-    let p = err_from_is_err_and c.from-residual.result c.from-residual.ensures.1 in
-    rw (p.1, p.2) (settled c.args.text.now c.args.words.now c.args.labels.now _ _ _ (c.in-err-counts.ensures c.args.words.now refl))
+pub returns-in_err-counts : goal.returns-in_err-counts
+returns-in_err-counts c =
+    let p = err_from_is_err_and c.from_residual.result c.from_residual.ensures.1 in
+    rw (p.1, p.2) (settled c.args.text.now c.args.words.now c.args.labels.now _ _ _ (c.in_err-counts.ensures c.args.words.now refl))
 
-pub slice-bounds-table-end : goal.slice-bounds-table-end
-slice-bounds-table-end c =
-    let fits = inside c.args.text.now c.args.words.now c.args.labels.now c.first-reading.new.labels c.in-ok-counts.counts c.in-ok-counts.ensures in
+pub slice_bounds-table-end : goal.slice_bounds-table-end
+slice_bounds-table-end c =
+    let fits = inside c.args.text.now c.args.words.now c.args.labels.now c.first_reading.new.labels c.in_ok-counts.counts c.in_ok-counts.ensures in
     search rules
 
-pub write-words-requires : goal.write-words-requires
-write-words-requires c =
-    ready c.args.text.now c.args.words.now c.args.labels.now c.first-reading.new.labels c.in-ok-counts.counts c.in-ok-counts.ensures
+pub write_words-requires : goal.write_words-requires
+write_words-requires c =
+    ready c.args.text.now c.args.words.now c.args.labels.now c.first_reading.new.labels c.in_ok-counts.counts c.in_ok-counts.ensures
 
-pub returns-in-err-write-words : goal.returns-in-err-write-words
-returns-in-err-write-words c =
-    let p = err_from_is_err_and c.from-residual-in-err-write-words.result c.from-residual-in-err-write-words.ensures.1 in
-    let counts = c.in-ok-counts in
+pub returns-in_err-write_words : goal.returns-in_err-write_words
+returns-in_err-write_words c =
+    let p = err_from_is_err_and c.from_residual-in_err-write_words.result c.from_residual-in_err-write_words.ensures.1 in
+    let counts = c.in_ok-counts in
     rw (p.1, p.2)
     (settled c.args.text.now c.args.words.now c.args.labels.now _ _ _
-    (lost c.args.text.now c.args.words.now c.args.labels.now c.first-reading.new.labels counts.counts counts.ensures _ _ c.in-err-write-words.ensures))
+    (lost c.args.text.now c.args.words.now c.args.labels.now c.first_reading.new.labels counts.counts counts.ensures _ _ c.in_err-write_words.ensures))
 
 pub returns : goal.returns
 returns c =
-    let counts = c.in-ok-counts in
+    let counts = c.in_ok-counts in
     settled c.args.text.now c.args.words.now c.args.labels.now _ _ _
-    (done c.args.text.now c.args.words.now c.args.labels.now c.first-reading.new.labels counts.counts counts.ensures _ c.in-ok-write-words.ensures)
+    (done c.args.text.now c.args.words.now c.args.labels.now c.first_reading.new.labels counts.counts counts.ensures _ c.in_ok-write_words.ensures)

@@ -5,14 +5,14 @@ use Rattle.text.specs.Outcome.{Fresh}
 use Rattle.text.proofs.Cuts.{from_start}
 use Rattle.text.proofs.assembly.check_line.Goals as goal
 
-pub returns-then-not-is-free : goal.returns-then-not-is-free
-returns-then-not-is-free c =
+pub returns-then-not-is_free : goal.returns-then-not-is_free
+returns-then-not-is_free c =
     let said = c.in-Some.said in
-    let told = from_start (λ l. Decides c.is-free.result (Fresh c.args.text.now l (label_in said))) c.args.labels.now c.args.counts.labels c.is-free.ensures in
-    (refl, (label_in said, (code_in said, c.in-Some.ensures.reading, λ free. both_ways _ c.if-not-is-free.true (told.1 free))))
+    let told = from_start (λ l. Decides c.is_free.result (Fresh c.args.text.now l (label_in said))) c.args.labels.now c.args.counts.labels c.is_free.ensures in
+    (refl, (label_in said, (code_in said, c.in-Some.ensures.reading, λ free. both_ways _ c.if-not-is_free.true (told.1 free))))
 
-pub returns-then-not-has-places : goal.returns-then-not-has-places
-returns-then-not-has-places c =
+pub returns-then-not-has_places : goal.returns-then-not-has_places
+returns-then-not-has_places c =
     let said = c.in-Some.said in
-    let told = from_start (λ l. Decides c.is-free.result (Fresh c.args.text.now l (label_in said))) c.args.labels.now c.args.counts.labels c.is-free.ensures in
-    (refl, (label_in said, (code_in said, c.in-Some.ensures.reading, told.0 c.if-not-is-free.false, λ places. both_ways _ c.if-not-has-places.true (c.has-places.ensures.1 places))))
+    let told = from_start (λ l. Decides c.is_free.result (Fresh c.args.text.now l (label_in said))) c.args.labels.now c.args.counts.labels c.is_free.ensures in
+    (refl, (label_in said, (code_in said, c.in-Some.ensures.reading, told.0 c.if-not-is_free.false, λ places. both_ways _ c.if-not-has_places.true (c.has_places.ensures.1 places))))

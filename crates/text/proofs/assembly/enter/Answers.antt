@@ -7,5 +7,5 @@ returns-in-Some c =
     let room = rw c.in-Some.is at c.requires in
     rw c.in-Some.is (enters c.args.labels.now c.args.at _ (omega arith))
 
-pub returns-in-default : goal.returns-in-default
-returns-in-default c = rw c.in-default.is (enters_none c.args.labels.now c.args.at)
+pub returns-in_default : goal.returns-in_default
+returns-in_default c = rw c.in_default.is (enters_none c.args.labels.now c.args.at)

@@ -1,4 +1,4 @@
-use Rattle.std.proofs.Common.{suc, ◌-◌, ◌≤◌, length}
+use Rattle.std.proofs.Common.{suc, ◌-◌, length}
 use Rattle.text.proofs.FirstPass.{Sofar}
 use Rattle.text.proofs.assembly.first_reading.Given as goal
 

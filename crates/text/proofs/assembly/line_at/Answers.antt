@@ -1,7 +1,5 @@
-use Rattle.std.proofs.Common.{◌≡◌, ◌-◌, length, take, drop, sym, ap, ◌∙◌, subst, arith}
-use Rattle.std.specs.List.{prefix_len}
+use Rattle.std.proofs.Common.{◌≡◌, ◌-◌, arith}
 use Rattle.std.proofs.lemmas.List.{take_rest}
-use Rattle.text.specs.Outcome.{LineAt}
 use Rattle.text.proofs.Cuts.{line_there}
 use Rattle.text.proofs.assembly.line_at.Goals as goal
 
@@ -9,6 +7,6 @@ pub returns : goal.returns
 returns c =
     let text = c.args.text.now in
     let at = c.args.at in
-    let n : c.run-len-n.result - 0 ≡ c.run-len-n.result = omega arith in
-    let told = c.run-len-n.ensures.value in
+    let n : c.run_len-n.result - 0 ≡ c.run_len-n.result = omega arith in
+    let told = c.run_len-n.ensures.value in
     rw (n, told, take_rest text at) (line_there text at c.requires)
