@@ -1,5 +1,6 @@
 // Reads a shader text from standard input and prints its program words, or why it is refused.
 #![tactic(auto)]
+
 mod report;
 
 use anyhow::anyhow;
