@@ -1,5 +1,5 @@
 -- What a check of an example has shown where it passes.
-use Rattle.std.specs.Prelude.{ℕ, List, [], length, take, Ok, Err, Result}
+use Rattle.std.specs.Prelude.{ℕ, List, [], length, Ok, Err, Result}
 use Rattle.listing.specs.declared.Refusal.{Refusal}
 use Rattle.text.specs.declared.table.Label.{Label}
 use Rattle.text_cases.specs.Answers.{Answered, AnsweredIn, refused_at}

@@ -4,11 +4,10 @@ ghost use Rattle.text_cases.specs.Answers.{AnsweredIn, refused_at};
 ghost use Rattle.text_cases.specs.Passes.{Gives, Enters, Refuses, Fits, Stops};
 ghost use Rattle.text_cases.specs.Places.{parts_of, IsAt, Begins, IsLabelAt, BeginsLabels};
 
+use crate::wrong::{Wrong, check};
 use crate::{answer, parts};
 use listing::{Layer, Refusal};
 use std::alloc::Global;
-use std::process::Abort;
-use std::test::Fail;
 use text::Label;
 
 // What the places for words hold before a text is assembled.
@@ -40,14 +39,18 @@ fn word_at(front: &[u32], i: usize) -> u32
 }
 
 // Passes where the places begin with these words and are else as they were.
-pub(crate) fn hold(rt: &impl Abort, words: &[u32], front: &[u32]) -> Result<(), Fail>
+pub(crate) fn hold(words: &[u32], front: &[u32]) -> Result<(), Wrong>
     ensures { OnOk result (Begins words.now front.now) }
 {
-    assert!(rt; front.len() <= words.len());
+    check(front.len() <= words.len(), "room for the words")?;
     for (i, word) in words.iter().enumerate() {
         let expected = word_at(front, i);
         if *word != expected {
-            return Err(Fail::new(format_args!("word {i} is {word:05x}, not {expected:05x}")));
+            return Err(Wrong::Word {
+                place: i,
+                is: *word,
+                expected,
+            });
         }
     }
     Ok(())
@@ -65,57 +68,51 @@ fn label_at(front: &[(usize, usize, usize)], i: usize) -> (usize, usize, usize)
 }
 
 // Passes where the label has this place, length and address.
-fn is_label(rt: &impl Abort, label: &Label, expected: (usize, usize, usize)) -> Result<(), Fail>
+fn is_label(label: &Label, expected: (usize, usize, usize)) -> Result<(), Wrong>
     ensures { OnOk result (parts_of label.now ≡ expected) }
 {
     let (place, length, address) = expected;
     if label.place == place && label.length == length && label.address == address {
         Ok(())
     } else {
-        assert_eq!(rt; parts(label), expected);
-        Err(Fail::new("labels differ"))
+        Err(Wrong::Label {
+            is: parts(label),
+            expected,
+        })
     }
 }
 
 // Passes where the places begin with these labels and are else as they were.
-pub(crate) fn hold_labels(
-    rt: &impl Abort,
-    labels: &[Label],
-    front: &[(usize, usize, usize)],
-) -> Result<(), Fail>
+pub(crate) fn hold_labels(labels: &[Label], front: &[(usize, usize, usize)]) -> Result<(), Wrong>
     ensures { OnOk result (BeginsLabels labels.now front.now) }
 {
-    assert!(rt; front.len() <= labels.len());
+    check(front.len() <= labels.len(), "room for the labels")?;
     for (i, label) in labels.iter().enumerate() {
-        is_label(rt, label, label_at(front, i))?;
+        is_label(label, label_at(front, i))?;
     }
     Ok(())
 }
 
 // Passes where the text gives just these words.
-pub(crate) fn gives(rt: &impl Abort, text: &[u8], expected: &[u32]) -> Result<(), Fail>
+pub(crate) fn gives(text: &[u8], expected: &[u32]) -> Result<(), Wrong>
     ensures { OnOk result (Gives text.now expected.now) }
 {
     let mut words = [OLD; 20];
     let mut labels = [BLANK; 20];
     let (count, _) = answer(text, &mut words, &mut labels)?;
-    assert!(rt; count == expected.len());
-    hold(rt, &words, expected)
+    check(count == expected.len(), "as many")?;
+    hold(&words, expected)
 }
 
 // Passes where the text gives just these labels.
-pub(crate) fn enters(
-    rt: &impl Abort,
-    text: &[u8],
-    expected: &[(usize, usize, usize)],
-) -> Result<(), Fail>
+pub(crate) fn enters(text: &[u8], expected: &[(usize, usize, usize)]) -> Result<(), Wrong>
     ensures { OnOk result (Enters text.now expected.now) }
 {
     let mut words = [OLD; 20];
     let mut labels = [BLANK; 20];
     let (_, count) = answer(text, &mut words, &mut labels)?;
-    assert!(rt; count == expected.len());
-    hold_labels(rt, &labels, expected)
+    check(count == expected.len(), "as many")?;
+    hold_labels(&labels, expected)
 }
 
 // A text that is refused: with so many places, the reason, and the labels that are entered.
@@ -144,68 +141,70 @@ pub(crate) fn answer_in(
 }
 
 // Passes where the refusal has this number and this line.
-pub(crate) fn is_at(refusal: Refusal, number: u32, line: u32) -> Result<(), Fail>
+pub(crate) fn is_at(refusal: Refusal, number: u32, line: u32) -> Result<(), Wrong>
     ensures { OnOk result (refusal ≡ refused_at number line) }
 {
     let Layer::Text = refusal.layer else {
-        return Err(Fail::new("the refusal is not of a text"));
+        return Err(Wrong::Not("of a text"));
     };
     if refusal.number == number && refusal.place == line {
         Ok(())
     } else {
-        Err(Fail::new(format_args!("the refusal is {refusal:?}")))
+        Err(Wrong::Refused(refusal))
     }
 }
 
 // Passes where the text is refused as told, writes no word and leaves all else as it was.
-pub(crate) fn stops(rt: &impl Abort, case: Stop) -> Result<(), Fail>
+pub(crate) fn stops(case: Stop) -> Result<(), Wrong>
     ensures { OnOk result (Stops case.text.now (case.words, case.labels) (refused_at case.number case.line) case.entered.now) }
 {
     let mut words = [OLD; 20];
     let mut labels = [BLANK; 20];
-    assert!(rt; case.words <= 20 && case.labels <= 20);
+    check(
+        case.words <= 20 && case.labels <= 20,
+        "at most twenty places",
+    )?;
     let room = (case.words, case.labels);
     let Err(refusal) = answer_in(case.text, &mut words, &mut labels, room) else {
-        return Err(Fail::new("the text is not refused"));
+        return Err(Wrong::Not("refused"));
     };
     is_at(refusal, case.number, case.line)?;
-    hold(rt, &words, &[])?;
-    hold_labels(rt, &labels, case.entered)
+    hold(&words, &[])?;
+    hold_labels(&labels, case.entered)
 }
 
 // Passes where the text takes up so many places for words and for labels, and needs no more.
-pub(crate) fn fits(rt: &impl Abort, text: &[u8], room: (usize, usize)) -> Result<(), Fail>
+pub(crate) fn fits(text: &[u8], room: (usize, usize)) -> Result<(), Wrong>
     ensures { OnOk result (Fits text.now room) }
 {
     let mut words = [OLD; 20];
     let mut labels = [BLANK; 20];
-    assert!(rt; room.0 <= 20 && room.1 <= 20);
+    check(room.0 <= 20 && room.1 <= 20, "at most twenty places")?;
     let (n, m) = answer_in(text, &mut words, &mut labels, room)?;
-    assert!(rt; n == room.0);
-    assert!(rt; m == room.1);
-    Ok(())
+    check(n == room.0, "as many words")?;
+    check(m == room.1, "as many labels")
 }
 
 // Passes where the text is refused for this reason and writes no word.
-pub(crate) fn refused(rt: &impl Abort, text: &[u8], number: u32, line: u32) -> Result<(), Fail>
+pub(crate) fn refused(text: &[u8], number: u32, line: u32) -> Result<(), Wrong>
     ensures { OnOk result (Refuses text.now number line) }
 {
     let mut words = [OLD; 20];
     let mut labels = [BLANK; 20];
     let Err(refusal) = answer(text, &mut words, &mut labels) else {
-        return Err(Fail::new("the text is not refused"));
+        return Err(Wrong::Not("refused"));
     };
     is_at(refusal, number, line)?;
-    hold(rt, &words, &[])
+    hold(&words, &[])
 }
 
 // Passes where the line is outside the grammar, alone and as the third of four.
-pub(crate) fn is_foreign(rt: &impl Abort, heap: Global, line: &[u8]) -> Result<(), Fail>
+pub(crate) fn is_foreign(heap: Global, line: &[u8]) -> Result<(), Wrong>
     ensures { OnOk result (Refuses line.now 21 1) }
 {
-    refused(rt, line, 21, 1)?;
+    refused(line, 21, 1)?;
     let mut text = b"l:nop\n\n".to_vec(heap)?;
     text.extend_from_slice(line)?;
     text.extend_from_slice(b"\nnop nop")?;
-    refused(rt, text.as_slice(), 21, 3)
+    refused(text.as_slice(), 21, 3)
 }

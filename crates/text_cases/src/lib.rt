@@ -1,5 +1,6 @@
 // Examples of the shader assembler: what a text must give, with the values that tests compare.
 #![tactic(auto)]
+
 ghost use Rattle.std.specs.Prelude.{◌≡◌, IfOk, string_bytes};
 ghost use Rattle.text_cases.specs.Answers.{Answered};
 ghost use Rattle.text_cases.specs.Places.{parts_of};
@@ -17,6 +18,8 @@ mod limits;
 mod refusals;
 #[cfg(test)]
 mod words;
+#[cfg(test)]
+mod wrong;
 
 // The answer to a text: how many words and labels it has, or why it is refused.
 pub(crate) fn answer(

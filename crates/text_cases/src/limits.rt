@@ -1,8 +1,8 @@
 // Texts at the end of the places, of the addresses and of the greatest length.
 use crate::expect::{BLANK, OLD, Stop, at_line, fits, hold, hold_labels, stops};
+use crate::wrong::{Wrong, check, noted};
 use crate::{answer, numbered, parts};
 use std::alloc::Global;
-use std::process::Abort;
 use std::test::Fail;
 
 const STOPS: [Stop; 22] = [
@@ -185,47 +185,41 @@ const STOPS: [Stop; 22] = [
 ];
 
 #[test]
-fn few_places(rt: HostRuntime) -> Result<(), Fail> {
+fn few_places() -> Result<(), Fail> {
     for (i, case) in STOPS.iter().enumerate() {
-        stops(&rt, *case).note(i)?;
+        noted(stops(*case), "stop", i)?;
     }
-    fits(&rt, b";c\n", (0, 0))?;
-    fits(&rt, b"x:", (0, 1))?;
-    fits(&rt, b"nop", (1, 0))?;
-    fits(&rt, b"x:nop\ny:\nloop y", (2, 2))
+    fits(b";c\n", (0, 0))?;
+    fits(b"x:", (0, 1))?;
+    fits(b"nop", (1, 0))?;
+    Ok(fits(b"x:nop\ny:\nloop y", (2, 2))?)
 }
 
 // Passes where a label behind two uses and so many words is found at its address, 2 more.
-fn reaches(
-    rt: &impl Abort,
-    heap: Global,
-    nops: usize,
-    first: u32,
-    second: u32,
-) -> Result<(), Fail> {
+fn reaches(heap: Global, nops: usize, first: u32, second: u32) -> Result<(), Wrong> {
     let mut text = String::from_str(heap, "bltz $31,t\nloop t\n")?;
     text.push_str("nop\n".repeat(heap, nops)?.as_str())?;
     text.push_str("t:")?;
     let mut words = [OLD; 2100];
     let mut labels = [BLANK; 2];
     let (count, _) = answer(text.as_bytes(), &mut words, &mut labels)?;
-    assert!(rt; count >= 2 && count <= 2100);
-    assert_eq!(rt; count - 2, nops);
-    hold(rt, &words[0..2], &[first, second])
+    check(count >= 2 && count <= 2100, "room for the words")?;
+    check(count - 2 == nops, "as many words")?;
+    hold(&words[0..2], &[first, second])
 }
 
 #[test]
-fn targets(rt: HostRuntime) -> Result<(), Fail> {
+fn targets(rt: HostRuntime) -> Result<(), Wrong> {
     let heap = rt.alloc();
-    reaches(&rt, heap, 125, 0xd0fff, 0xf007f)?;
-    reaches(&rt, heap, 126, 0xd1f80, 0xf0080)?;
-    reaches(&rt, heap, 254, 0xd2f80, 0xf0100)?;
-    reaches(&rt, heap, 1363, 0xdafd5, 0xf0555)?;
-    reaches(&rt, heap, 2045, 0xdffff, 0xf07ff)
+    reaches(heap, 125, 0xd0fff, 0xf007f)?;
+    reaches(heap, 126, 0xd1f80, 0xf0080)?;
+    reaches(heap, 254, 0xd2f80, 0xf0100)?;
+    reaches(heap, 1363, 0xdafd5, 0xf0555)?;
+    reaches(heap, 2045, 0xdffff, 0xf07ff)
 }
 
 #[test]
-fn far_labels(rt: HostRuntime) -> Result<(), Fail> {
+fn far_labels(rt: HostRuntime) -> Result<(), Wrong> {
     let heap = rt.alloc();
     let mut words = [OLD; 2100];
     let mut labels = [BLANK; 2];
@@ -235,33 +229,33 @@ fn far_labels(rt: HostRuntime) -> Result<(), Fail> {
         answer(text.as_bytes(), &mut words, &mut labels),
         Ok((2048, 1))
     );
-    hold(&rt, &words, [0; 2048].as_slice())?;
-    hold_labels(&rt, &labels, &[(8192, 3, 2048)])?;
+    hold(&words, [0; 2048].as_slice())?;
+    hold_labels(&labels, &[(8192, 3, 2048)])?;
     text.push_str("loop far")?;
     let mut fresh = [OLD; 2100];
     let got = answer(text.as_bytes(), &mut fresh, &mut labels);
     assert_eq!(rt; got, Err(at_line(24, 2049)));
-    hold(&rt, &fresh, &[])
+    hold(&fresh, &[])
 }
 
 #[test]
-fn last_word(rt: HostRuntime) -> Result<(), Fail> {
+fn last_word(rt: HostRuntime) -> Result<(), Wrong> {
     let heap = rt.alloc();
     let mut words = [OLD; 2048];
     let mut labels = [BLANK; 2];
     let more = "nop\n".repeat(heap, 2049)?;
     let got = answer(more.as_bytes(), &mut words, &mut labels);
     assert_eq!(rt; got, Err(at_line(23, 2049)));
-    hold(&rt, &words, &[])?;
+    hold(&words, &[])?;
     let full = "nop\n".repeat(heap, 2048)?;
     let got = answer(full.as_bytes(), &mut words, &mut labels);
     assert_eq!(rt; got, Ok((2048, 0)));
-    hold(&rt, &words, &[0; 2048])?;
-    hold_labels(&rt, &labels, &[])
+    hold(&words, &[0; 2048])?;
+    hold_labels(&labels, &[])
 }
 
 #[test]
-fn last_label(rt: HostRuntime) -> Result<(), Fail> {
+fn last_label(rt: HostRuntime) -> Result<(), Wrong> {
     let heap = rt.alloc();
     let mut words = [OLD; 2];
     let mut labels = [BLANK; 2048];
@@ -275,11 +269,11 @@ fn last_label(rt: HostRuntime) -> Result<(), Fail> {
     assert_eq!(rt; got, Ok((0, 2048)));
     assert_eq!(rt; parts(&fresh[0]), (0, 2, 0));
     assert_eq!(rt; parts(&fresh[2047]), (13219, 5, 0));
-    hold(&rt, &words, &[])
+    hold(&words, &[])
 }
 
 #[test]
-fn longest_text(rt: HostRuntime) -> Result<(), Fail> {
+fn longest_text(rt: HostRuntime) -> Result<(), Wrong> {
     let heap = rt.alloc();
     let mut words = [OLD; 2];
     let mut labels = [BLANK; 2];
@@ -290,16 +284,16 @@ fn longest_text(rt: HostRuntime) -> Result<(), Fail> {
     longer.push_str(".")?;
     let got = answer(longer.as_bytes(), &mut words, &mut labels);
     assert_eq!(rt; got, Err(at_line(20, 0)));
-    hold(&rt, &words, &[])?;
-    hold_labels(&rt, &labels, &[])?;
+    hold(&words, &[])?;
+    hold_labels(&labels, &[])?;
     let got = answer(text.as_bytes(), &mut words, &mut labels);
     assert_eq!(rt; got, Ok((1, 1)));
-    hold(&rt, &words, &[0])?;
-    hold_labels(&rt, &labels, &[(0, 1, 0)])
+    hold(&words, &[0])?;
+    hold_labels(&labels, &[(0, 1, 0)])
 }
 
 #[test]
-fn many_lines(rt: HostRuntime) -> Result<(), Fail> {
+fn many_lines(rt: HostRuntime) -> Result<(), Wrong> {
     let heap = rt.alloc();
     let mut text = "\n".repeat(heap, 65534)?;
     let mut words = [OLD; 2];
@@ -311,6 +305,6 @@ fn many_lines(rt: HostRuntime) -> Result<(), Fail> {
     text.push_str("?")?;
     let got = answer(text.as_bytes(), &mut words, &mut labels);
     assert_eq!(rt; got, Err(at_line(21, 65535)));
-    hold(&rt, &words, &[])?;
-    hold_labels(&rt, &labels, &[])
+    hold(&words, &[])?;
+    hold_labels(&labels, &[])
 }

@@ -1,7 +1,7 @@
 // Texts that are refused, with the number and the line.
 use crate::expect::{at_line, is_foreign, refused};
+use crate::wrong::{Wrong, noted};
 use std::alloc::Global;
-use std::process::Abort;
 use std::test::Fail;
 use text::Fault;
 
@@ -163,44 +163,44 @@ const BYTES: [&[u8]; 22] = [
 ];
 
 // Passes where each of the lines is outside the grammar.
-fn are_foreign(rt: &impl Abort, heap: Global, lines: &[&[u8]]) -> Result<(), Fail> {
+fn are_foreign(heap: Global, list: &'static str, lines: &[&[u8]]) -> Result<(), Fail> {
     for (i, line) in lines.iter().enumerate() {
-        is_foreign(rt, heap, *line).note(i)?;
+        noted(is_foreign(heap, *line), list, i)?;
     }
     Ok(())
 }
 
 #[test]
 fn operands_outside_the_grammar(rt: HostRuntime) -> Result<(), Fail> {
-    are_foreign(&rt, rt.alloc(), &OPERANDS)?;
-    are_foreign(&rt, rt.alloc(), &LISTS).note("lists")
+    are_foreign(rt.alloc(), "operands", &OPERANDS)?;
+    are_foreign(rt.alloc(), "lists", &LISTS)
 }
 
 #[test]
 fn lines_outside_the_grammar(rt: HostRuntime) -> Result<(), Fail> {
-    are_foreign(&rt, rt.alloc(), &LINES)?;
-    are_foreign(&rt, rt.alloc(), &BYTES).note("bytes")
+    are_foreign(rt.alloc(), "lines", &LINES)?;
+    are_foreign(rt.alloc(), "bytes", &BYTES)
 }
 
 #[test]
-fn labels_twice(rt: HostRuntime) -> Result<(), Fail> {
-    refused(&rt, b"x:\nx:", 22, 2)?;
-    refused(&rt, b"x:nop\n\n;c\n x : done", 22, 4)?;
-    refused(&rt, b"a:\nb:\nb:\na:", 22, 3)?;
-    refused(&rt, b"x:\nX:\nx:", 22, 3)?;
-    refused(&rt, b"abcdefghijklmnop:\nabcdefghijklmnop:", 22, 2)?;
-    refused(&rt, b"nop:nop\nnop:nop\nfoo", 22, 2)
+fn labels_twice() -> Result<(), Wrong> {
+    refused(b"x:\nx:", 22, 2)?;
+    refused(b"x:nop\n\n;c\n x : done", 22, 4)?;
+    refused(b"a:\nb:\nb:\na:", 22, 3)?;
+    refused(b"x:\nX:\nx:", 22, 3)?;
+    refused(b"abcdefghijklmnop:\nabcdefghijklmnop:", 22, 2)?;
+    refused(b"nop:nop\nnop:nop\nfoo", 22, 2)
 }
 
 #[test]
-fn unknown_labels(rt: HostRuntime) -> Result<(), Fail> {
-    refused(&rt, b"loop x", 24, 1)?;
-    refused(&rt, b"nop\nbltz $0,b\nloop a", 24, 2)?;
-    refused(&rt, b"x:loop x\n\nbltz $1,X\nloop y", 24, 3)?;
-    refused(&rt, b"loop nop\nnop", 24, 1)?;
-    refused(&rt, b"loop x;x:\nxx:\nx_:", 24, 1)?;
-    refused(&rt, b"loop x\nfoo", 21, 2)?;
-    refused(&rt, b"loop x\ny:\ny:", 22, 3)
+fn unknown_labels() -> Result<(), Wrong> {
+    refused(b"loop x", 24, 1)?;
+    refused(b"nop\nbltz $0,b\nloop a", 24, 2)?;
+    refused(b"x:loop x\n\nbltz $1,X\nloop y", 24, 3)?;
+    refused(b"loop nop\nnop", 24, 1)?;
+    refused(b"loop x;x:\nxx:\nx_:", 24, 1)?;
+    refused(b"loop x\nfoo", 21, 2)?;
+    refused(b"loop x\ny:\ny:", 22, 3)
 }
 
 #[test]

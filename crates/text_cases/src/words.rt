@@ -1,5 +1,6 @@
 // Texts that are good, with their words and their labels.
 use crate::expect::{enters, gives};
+use crate::wrong::{Wrong, noted};
 use std::test::Fail;
 
 // A line of one instruction, with its word.
@@ -135,85 +136,64 @@ const SPACED: [&[u8]; 12] = [
 ];
 
 #[test]
-fn each_instruction(rt: HostRuntime) -> Result<(), Fail> {
-    gives(&rt, b"add $17, $16, $0\ndone\n", &[0x01800, 0xa0000])?;
-    gives(&rt, b"add $17, $16, $0\ndone", &[0x01800, 0xa0000])?;
+fn each_instruction() -> Result<(), Fail> {
+    gives(b"add $17, $16, $0\ndone\n", &[0x01800, 0xa0000])?;
+    gives(b"add $17, $16, $0\ndone", &[0x01800, 0xa0000])?;
     for case in &INSTRUCTIONS {
-        gives(&rt, case.text, &[case.word]).note(case.word)?;
+        noted(gives(case.text, &[case.word]), "word", case.word)?;
     }
     for case in &GREATEST {
-        gives(&rt, case.text, &[case.word]).note(case.word)?;
+        noted(gives(case.text, &[case.word]), "word", case.word)?;
     }
     Ok(())
 }
 
 #[test]
-fn spacing(rt: HostRuntime) -> Result<(), Fail> {
+fn spacing() -> Result<(), Fail> {
     for (i, text) in SPACED.iter().enumerate() {
-        gives(&rt, *text, &[0x01800]).note(i)?;
+        noted(gives(*text, &[0x01800]), "spacing", i)?;
     }
     Ok(())
 }
 
 #[test]
-fn comments_and_ends(rt: HostRuntime) -> Result<(), Fail> {
-    gives(&rt, b"", &[])?;
-    gives(&rt, b"\n", &[])?;
-    gives(&rt, b" \t\n\n\t ", &[])?;
-    gives(&rt, b";", &[])?;
-    gives(&rt, b"; \x00\r\xff add $99 :, \x80", &[])?;
-    gives(&rt, b";x:\n ;y:\nx:;x:\n", &[])?;
-    gives(&rt, b"done;\x00\r\xff\n;;\nnop ;done\n", &[0xa0000, 0])?;
-    gives(&rt, b"nop\n\nsetx 9;9\n\ndone", &[0, 0xe0009, 0xa0000])
+fn comments_and_ends() -> Result<(), Wrong> {
+    gives(b"", &[])?;
+    gives(b"\n", &[])?;
+    gives(b" \t\n\n\t ", &[])?;
+    gives(b";", &[])?;
+    gives(b"; \x00\r\xff add $99 :, \x80", &[])?;
+    gives(b";x:\n ;y:\nx:;x:\n", &[])?;
+    gives(b"done;\x00\r\xff\n;;\nnop ;done\n", &[0xa0000, 0])?;
+    gives(b"nop\n\nsetx 9;9\n\ndone", &[0, 0xe0009, 0xa0000])
 }
 
 #[test]
-fn names_and_labels(rt: HostRuntime) -> Result<(), Fail> {
+fn names_and_labels() -> Result<(), Wrong> {
+    gives(b"nop:sub $16,$0,$0\nloop:loop loop", &[0x10000, 0xf0001])?;
     gives(
-        &rt,
-        b"nop:sub $16,$0,$0\nloop:loop loop",
-        &[0x10000, 0xf0001],
-    )?;
-    gives(
-        &rt,
         b"nop\nbltz:bltz $1,bltz\nloop add\nadd:",
         &[0, 0xd0081, 0xf0003],
     )?;
-    enters(
-        &rt,
-        b"sub:\nmul:\ndiv:",
-        &[(0, 3, 0), (5, 3, 0), (10, 3, 0)],
-    )?;
-    enters(
-        &rt,
-        b"floor:\nabs:\nsqrt:",
-        &[(0, 5, 0), (7, 3, 0), (12, 4, 0)],
-    )?;
-    enters(
-        &rt,
-        b"cmov:\nsetx:\ndone:",
-        &[(0, 4, 0), (6, 4, 0), (12, 4, 0)],
-    )?;
-    gives(&rt, b"a:nop\nA:loop a\nloop A", &[0, 0xf0000, 0xf0001])?;
+    enters(b"sub:\nmul:\ndiv:", &[(0, 3, 0), (5, 3, 0), (10, 3, 0)])?;
+    enters(b"floor:\nabs:\nsqrt:", &[(0, 5, 0), (7, 3, 0), (12, 4, 0)])?;
+    enters(b"cmov:\nsetx:\ndone:", &[(0, 4, 0), (6, 4, 0), (12, 4, 0)])?;
+    gives(b"a:nop\nA:loop a\nloop A", &[0, 0xf0000, 0xf0001])?;
     gives(
-        &rt,
         b"nop\nl_1:nop\nl_2:loop l_1\nloop l_2",
         &[0, 0, 0xf0001, 0xf0002],
     )?;
     gives(
-        &rt,
         b"nop\nabcdefghijklm_16:loop abcdefghijklm_16",
         &[0, 0xf0001],
     )?;
     gives(
-        &rt,
         b"A23456789012345x:nop\nA23456789012345y:loop A23456789012345x",
         &[0, 0xf0000],
     )?;
-    enters(&rt, b"nop\ndone;x:", &[])?;
-    enters(&rt, b"x:", &[(0, 1, 0)])?;
+    enters(b"nop\ndone;x:", &[])?;
+    enters(b"x:", &[(0, 1, 0)])?;
     enters(
-        &rt,
         b"x:nop\n\n \t y_2 : done\nz:;z:\nz2:\n",
         &[(0, 1, 0), (10, 3, 1), (21, 1, 2), (27, 2, 2)],
     )

@@ -5,4 +5,4 @@ use Rattle.text_cases.proofs.expect.enters.Goals as goal
 
 pub returns : goal.returns
 returns c =
-    passed (entered _ _ _ _ _ _ (eqb-true _ _ c.in-ok-check.ensures.1) c.in-ok-count.ensures) c.hold-labels.result c.hold-labels.ensures
+    passed (entered _ _ _ _ _ _ (eqb-true _ _ c.in_ok-check.ensures) c.in_ok-count.ensures) c.hold_labels.result c.hold_labels.ensures

@@ -4,4 +4,4 @@ use Rattle.text_cases.proofs.expect.stops.Goals as goal
 
 pub returns : goal.returns
 returns c =
-    passed (stopped _ _ _ _ _ _ _ c.in-ok-is-at.ensures c.in-Err.ensures c.in-ok-hold.ensures) c.hold-labels.result c.hold-labels.ensures
+    passed (stopped _ _ _ _ _ _ _ c.in_ok-is_at.ensures c.in-Err.ensures c.in_ok-hold.ensures) c.hold_labels.result c.hold_labels.ensures
