@@ -1,5 +1,5 @@
 -- The words that are counted are among those that are written.
-use Rattle.std.proofs.Common.{◌≡◌, ℕ, ◌≤◌, List, ◌++◌, length, drop, ap, arith, length-append}
+use Rattle.std.proofs.Common.{ℕ, ◌≤◌, List, length, drop, ap, arith, length-append}
 use Rattle.std.proofs.lemmas.List.{length-map}
 use Rattle.text.specs.declared.table.Counts.{Counts}
 use Rattle.text.specs.declared.table.Label.{Label}

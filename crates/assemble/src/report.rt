@@ -40,7 +40,7 @@ mod tests {
     fn words(rt: HostRuntime) -> Result<(), Fail> {
         match report_on(rt.alloc(), b"add $17, $16, $0\ndone\n")? {
             Report::Words(lines) => {
-                assert_eq!(rt; lines.as_slice(), b"01800\na0000\n");
+                assert_eq!(rt; lines.as_slice(), b"01800\na0000\n".as_slice());
                 Ok(())
             },
             Report::Refused(_) => Err(Fail::new("a good text is refused")),

@@ -1,5 +1,6 @@
 // The lines that the programs print, as values: the words of a program, and one refusal.
 #![tactic(auto)]
+
 ghost use Rattle.std.specs.Prelude.{◌≡◌, ◌%◌, IfOk, string_bytes};
 ghost use Rattle.std.specs.List.{flat_map};
 ghost use Rattle.listing.specs.Lines.{hex_digit, word_line, LowerHex, hex_value, Reads, place_word, refusal_line};
@@ -99,7 +100,7 @@ mod tests {
     #[test]
     fn lists_of_words(rt: HostRuntime) -> Result<(), Fail> {
         let lines = word_lines(rt.alloc(), &[0x01800, 0xa0000])?;
-        assert_eq!(rt; lines.as_slice(), b"01800\na0000\n");
+        assert_eq!(rt; lines.as_slice(), b"01800\na0000\n".as_slice());
         let none = word_lines(rt.alloc(), &[])?;
         assert!(rt; none.is_empty());
         Ok(())
