@@ -1,6 +1,6 @@
 -- The operands of a line, token by token.
 use Rattle.std.proofs.Common.{◌≡◌, ℕ, suc, ◌≤◌, List, [], ◌∷◌, length, Some, None, Option, sym, refl, ap, subst, arith, Bor, MatchOption}
-use Rattle.std.specs.List.{AllByRecursion as All}
+use Rattle.std.specs.List.{AllByRecursion}
 use Rattle.grammar.specs.declared.operand.Operand.{Operand}
 use Rattle.grammar.specs.declared.token.Token.{Token}
 use Rattle.grammar.specs.declared.token.Token.TheVariants.{Name, Number, Register, Comma, Colon, End}
@@ -51,11 +51,11 @@ module _ (bs : List ℕ) where
 
 -- not spelled: at most n operands, each with its comma
 abbrev pub Barred : List ℕ → ℕ → Type 0
-Barred bs n = (os : List Opd) → length os ≤ n → All InRange os → Spelled bs (tailed os) → ⊥
+Barred bs n = (os : List Opd) → length os ≤ n → AllByRecursion InRange os → Spelled bs (tailed os) → ⊥
 
 -- not spelled: at most three operands
 abbrev pub Shut : List ℕ → Type 0
-Shut bs = (os : List Opd) → length os ≤ 3 → All InRange os → Spelled bs (listed os) → ⊥
+Shut bs = (os : List Opd) → length os ≤ 3 → AllByRecursion InRange os → Spelled bs (listed os) → ⊥
 
 pub barred_none : (bs : List ℕ) (n : ℕ) → MoreOf bs None → Barred bs n
 barred_none bs n h os short r s = h os r s
@@ -70,14 +70,14 @@ module _ (bs rest : List ℕ) (t : Tok) where
       let (o, more) = tail_step bs mid rest t os p q s in
       let cut = more.1 in
       let long = ap length cut in
-      h more.0 (omega arith) (subst (All InRange) cut r).1 more.2
+      h more.0 (omega arith) (subst (AllByRecursion InRange) cut r).1 more.2
 
   pub shut_more : Next bs t rest → Barred rest 2 → Shut bs
   shut_more n h os short r s =
       let (o, more) = head_step bs rest t os n s in
       let cut = more.1 in
       let long = ap length cut in
-      h more.0 (omega arith) (subst (All InRange) cut r).1 more.2
+      h more.0 (omega arith) (subst (AllByRecursion InRange) cut r).1 more.2
 
 pub shut_none : (bs : List ℕ) → NoToken bs → Shut bs
 shut_none bs h [] short r s = h.goes s

@@ -1,6 +1,6 @@
 -- A line is read in one way only.
 use Rattle.std.proofs.Common.{◌≡◌, ℕ, ◌+◌, ◌*◌, cond, eqb, List, [], ◌∷◌, get_or, IfSome, Some, None, decimal, Option, sym, refl, ap, ◌∙◌, subst, ap₂, arith, MatchOption}
-use Rattle.std.specs.List.{AllByRecursion as All}
+use Rattle.std.specs.List.{AllByRecursion}
 use Rattle.grammar.specs.declared.instruction.Binary.TheVariants.{Add, Sub, Mul, Div}
 use Rattle.grammar.specs.declared.instruction.Unary.TheVariants.{Floor, Abs, Sqrt}
 use Rattle.grammar.specs.declared.instruction.Mnemonic.{Mnemonic}
@@ -67,7 +67,7 @@ token_one (lab m) (reg w) q r e = cc
 token_one (lab m) (num w) q r e = cc
 token_one (lab m) (lab n) q r e = cc
 
-pub tailed_one : (os ps : List Opd) → All InRange os → All InRange ps → tailed os ≡ tailed ps → os ≡ ps
+pub tailed_one : (os ps : List Opd) → AllByRecursion InRange os → AllByRecursion InRange ps → tailed os ≡ tailed ps → os ≡ ps
 tailed_one [] [] q r e = refl
 tailed_one [] (p ∷ ps) q r e = cc
 tailed_one (o ∷ os) [] q r e = cc
@@ -78,7 +78,7 @@ tailed_one (o ∷ os) (p ∷ ps) q r e =
     let tail = tailed_one os ps q.1 r.1 more in
     cc
 
-pub listed_one : (os ps : List Opd) → All InRange os → All InRange ps → listed os ≡ listed ps → os ≡ ps
+pub listed_one : (os ps : List Opd) → AllByRecursion InRange os → AllByRecursion InRange ps → listed os ≡ listed ps → os ≡ ps
 listed_one [] [] q r e = refl
 listed_one [] (p ∷ ps) q r e = cc
 listed_one (o ∷ os) [] q r e = cc
@@ -90,11 +90,11 @@ listed_one (o ∷ os) (p ∷ ps) q r e =
     cc
 
 -- an instruction has one name and one list of operands, and these are of no other
-pub code_read : (n rest : List ℕ) (m : Mnemonic) (os : List Opd) (r : Option Instruction) → n ≡ spelling m → All InRange os → Spelled rest (listed os) → FormedBy m os r → CodeAt n rest r
+pub code_read : (n rest : List ℕ) (m : Mnemonic) (os : List Opd) (r : Option Instruction) → n ≡ spelling m → AllByRecursion InRange os → Spelled rest (listed os) → FormedBy m os r → CodeAt n rest r
 code_read n rest m os None named ranges s f = λ i w.
     f i (spelling_one _ _ (sym w.named ∙ named)) (listed_one _ _ w.formed.ranges ranges (spelled_one rest _ _ w.operands s)) w.formed.kinds
 code_read n rest m os (Some x) named ranges s f = record {
-  formed = record { kinds = f.2; ranges = subst (All InRange) (sym f.1) ranges };
+  formed = record { kinds = f.2; ranges = subst (AllByRecursion InRange) (sym f.1) ranges };
   named = named ∙ ap spelling (sym f.0);
   operands = subst (λ l. Spelled rest (listed l)) (sym f.1) s;
 }

@@ -1,6 +1,6 @@
 -- The instructions: how each is named, and what its operands are.
 use Rattle.std.specs.Prelude.{◌≡◌, ℕ, ◌≤◌, Bool, true, false, List, [], ◌∷◌, codes, Option, MatchOption, ◌≢◌, nat_le}
-use Rattle.std.specs.List.{AllByRecursion as All}
+use Rattle.std.specs.List.{AllByRecursion}
 use Rattle.grammar.specs.declared.instruction.Binary.{Binary}
 use Rattle.grammar.specs.declared.instruction.Binary.TheVariants.{Add, Sub, Mul, Div}
 use Rattle.grammar.specs.declared.instruction.Unary.{Unary}
@@ -109,7 +109,7 @@ Kinds nop = Unit {0}
 -- an instruction of the language: kinds and ranges
 pub record Formed (i : Ins) : Type 0 where
   pub kinds : Kinds i
-  pub ranges : All InRange (operands_of i)
+  pub ranges : AllByRecursion InRange (operands_of i)
 
 -- the tests of one operand
 abbrev pub is_destination : Operand → Bool

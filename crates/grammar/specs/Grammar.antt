@@ -1,7 +1,7 @@
 -- What a line of shader text says: a label or none, an instruction or none.
 use Rattle.std.specs.Prelude.{◌≡◌, ℕ, ◌+◌, ◌-◌, ◌*◌, ◌<◌, ◌≤◌, true, List, [], ◌∷◌, length, Some, None, decimal, Option, MatchOption, ◌≢◌}
 use Rattle.std.specs.Borrow.{Bor}
-use Rattle.std.specs.List.{AllByRecursion as All}
+use Rattle.std.specs.List.{AllByRecursion}
 use Rattle.std.specs.Str.{all_ascii_digits}
 use Rattle.grammar.specs.declared.token.Token.{Token}
 use Rattle.grammar.specs.declared.operand.Operand.{Operand}
@@ -71,10 +71,10 @@ OperandOf t r = MatchOption r ((o : Opd) → InRange o → seen t ≢ Some (toke
 
 -- an operand behind a comma with what follows it, the end of the line, or neither
 abbrev pub MoreOf : List ℕ → Option (Option (Operand × Bor (List ℕ))) → Type 0
-MoreOf bs None = (os : List Opd) → All InRange os → Spelled bs (tailed os) → ⊥
+MoreOf bs None = (os : List Opd) → AllByRecursion InRange os → Spelled bs (tailed os) → ⊥
 MoreOf bs (Some None) = Ends bs
 MoreOf bs (Some (Some x)) = InRange (opd x.0) × ((mid : List ℕ) × Next bs comma mid × Next mid (token (opd x.0)) x.1.now)
 
 -- the operands of the rest of a line, at most three, or none
 abbrev pub OperandsOf : List ℕ → Option Operands → Type 0
-OperandsOf bs r = MatchOption r ((os : List Opd) → length os ≤ 3 → All InRange os → Spelled bs (listed os) → ⊥) (λ x. All InRange (opds x) × Spelled bs (listed (opds x)))
+OperandsOf bs r = MatchOption r ((os : List Opd) → length os ≤ 3 → AllByRecursion InRange os → Spelled bs (listed os) → ⊥) (λ x. AllByRecursion InRange (opds x) × Spelled bs (listed (opds x)))

@@ -1,7 +1,7 @@
 -- Tokens, and how the bytes of a line spell them.
 use Rattle.std.specs.Prelude.{◌≡◌, ℕ, ◌<◌, ◌≤◌, true, false, List, [], ◌∷◌, ◌++◌, length, Some, None, Option, MatchOption, slice_index}
 use Rattle.std.specs.Borrow.{Bor}
-use Rattle.std.specs.List.{AllByRecursion as All}
+use Rattle.std.specs.List.{AllByRecursion}
 use Rattle.grammar.specs.declared.token.Class.{Class}
 use Rattle.grammar.specs.Bytes.{class_of, goes_on}
 use Rattle.grammar.specs.declared.token.Class.TheVariants as class
@@ -20,7 +20,7 @@ pub data Tok : Type 0 where
 
 -- all bytes belong to the run
 abbrev pub Runs : Run → List ℕ → Type 0
-Runs run bs = All (λ b. goes_on run b ≡ true) bs
+Runs run bs = AllByRecursion (λ b. goes_on run b ≡ true) bs
 
 -- the bytes do not go on with the run
 abbrev pub Stops : Run → List ℕ → Type 0

@@ -2,7 +2,7 @@
 use Rattle.std.proofs.Common.{◌≡◌, ℕ, ◌*◌, ◌<◌, ◌≤◌, Bool, true, false, cond, eqb, ltb, ℤ, pos, negsuc, sym, refl, ap, ◌∙◌, le_refl, mod-lt, zero-add, arith}
 use mathlib.Core.Bool.{beq}
 use native.Mathlib.Nat.{min-le_right}
-use Rattle.std.specs.Float.{twice-sqrt-sticky}
+use lib.Ieee.{root_twice}
 use Rattle.std.proofs.lemmas.Nat.{pow_pos}
 use Rattle.std.proofs.lemmas.Bool.{cond_both, eqb-false}
 use Rattle.ieee.specs.Formats.{Value, not_number, infinite, finite, low, infinity, sign_weight, signed, pattern, negative, steps, decode}
@@ -85,7 +85,7 @@ round_held p e n d = min-le_right (near p n d) (infinity p e)
 
 root_held : (p e n : ℕ) → round_root p e n ≤ infinity p e
 unfolding round_root
-root_held p e n = round_held p e (twice-sqrt-sticky (4 * n)) 4
+root_held p e n = round_held p e (root_twice (4 * n)) 4
 
 signed_below : (p e : ℕ) (s : Bool) (m : ℕ) → m ≤ infinity p e → signed p e s m < 2 * sign_weight p e
 signed_below p e true m h = omega (arith, weight_above p e, hidden_pos p)

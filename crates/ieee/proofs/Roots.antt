@@ -3,7 +3,7 @@ use Rattle.std.proofs.Common.{◌≡◌, ℕ, zero, suc, ◌+◌, ◌-◌, ◌*�
 use lib.Ieee.{size}
 use lib.Ieee.Digits.{size-lt}
 use lib.Ieee.Nearest.{closest}
-use Rattle.std.specs.Float.{twice-sqrt-sticky, isqrt-below}
+use lib.Ieee.{root_twice, root_below}
 use Rattle.std.proofs.lemmas.Bool.{leb-true, leb-false, eq-eqb, ne_eqb, lt-ltb, le-ltb, cases_lt, cases_eq, cases_order, cond-true, cond-false}
 use Rattle.ieee.specs.Formats.{hidden, steps}
 use Rattle.ieee.specs.Rounding.{near, round_root}
@@ -20,15 +20,15 @@ digit : (r n : ℕ) (b : Bool) → Root r (n / 4) → leb ((2 * r + 1) * (2 * r 
 digit r n true h e = (leb-true _ _ e, omega (arith, h.1))
 digit r n false h e = (omega (arith, h.0), leb-false _ _ e)
 
-below : (k n : ℕ) → n < 2 ^ k → Root (isqrt-below k n) n
-unfolding isqrt-below
+below : (k n : ℕ) → n < 2 ^ k → Root (root_below k n) n
+unfolding root_below
 below zero n h = omega arith
-below (suc k) n h = digit (isqrt-below k (n / 4)) n _ (below k (n / 4) (omega arith)) refl
+below (suc k) n h = digit (root_below k (n / 4)) n _ (below k (n / 4) (omega arith)) refl
 
-root_parts : (n : ℕ) → (t : ℕ) × (t * t ≤ n) × (n < (t + 1) * (t + 1)) × (((twice-sqrt-sticky n ≡ 2 * t) × (t * t ≡ n)) ⊎ ((twice-sqrt-sticky n ≡ 2 * t + 1) × (t * t < n)))
-unfolding twice-sqrt-sticky
+root_parts : (n : ℕ) → (t : ℕ) × (t * t ≤ n) × (n < (t + 1) * (t + 1)) × (((root_twice n ≡ 2 * t) × (t * t ≡ n)) ⊎ ((root_twice n ≡ 2 * t + 1) × (t * t < n)))
+unfolding root_twice
 root_parts n =
-    let t = isqrt-below (size n) n in
+    let t = root_below (size n) n in
     let h : Root t n = below (size n) n (size-lt n) in (
       t,
       h.0,
@@ -46,7 +46,7 @@ lt_of_squares a b h = lt_of_not-le (λ (g : b ≤ a). omega (arith, mul-le-mul g
 abbrev Compared : ℕ → ℕ → ℕ → Type 0
 Compared n r x = ((x * x ≡ n) × (2 * x ≡ r)) ⊎ (((x * x < n) × (2 * x < r)) ⊎ ((n < x * x) × (r < 2 * x)))
 
-compared : (n x : ℕ) → Compared n (twice-sqrt-sticky n) x
+compared : (n x : ℕ) → Compared n (root_twice n) x
 compared n x =
     let h = root_parts n in
     let t = h.0 in
@@ -58,7 +58,7 @@ compared n x =
           inl (e, omega (arith, ap (λ (k : ℕ). k * k) c))
       | inr (inl l) ↦
           let a : x < t + 1 = lt_of_squares x (t + 1) (omega arith) in
-          let b : 2 * x < twice-sqrt-sticky n = elim h.3 [ inl w ↦ omega (arith, lt_of_squares x t (omega arith)) | inr w ↦ omega arith ] in
+          let b : 2 * x < root_twice n = elim h.3 [ inl w ↦ omega (arith, lt_of_squares x t (omega arith)) | inr w ↦ omega arith ] in
           inr (inl (l, b))
       | inr (inr g) ↦
           let a : t < x = lt_of_squares t x (omega arith) in
@@ -72,32 +72,32 @@ four_pow zero = refl
 four_pow (suc j) = omega (arith, four_pow j, pow-suc 4 j, ap (λ (k : ℕ). k * k) (pow-suc 2 j))
 
 module _ (n M R u : ℕ) (U : 0 < u) (e : n ≡ M * (u * u)) (l : R * R ≤ M) (h : M < (R + 1) * (R + 1)) where
-  from : R * (4 * u) ≤ twice-sqrt-sticky (4 * n)
+  from : R * (4 * u) ≤ root_twice (4 * n)
   from = omega (arith, compared (4 * n) (2 * R * u), mul-le-mul_right (u * u) l)
 
-  upto : twice-sqrt-sticky (4 * n) < (R + 1) * (4 * u)
+  upto : root_twice (4 * n) < (R + 1) * (4 * u)
   upto = omega (arith, compared (4 * n) (2 * (R + 1) * u), mul-lt-mul_of_pos_right h (mul-pos U U))
 
   -- a tie would be at (2 * R + 1) * u, whose square is never 4 * n
-  rounded : closest (twice-sqrt-sticky (4 * n)) (4 * u) ≡ cond (ltb R (M - R * R)) (R + 1) R
+  rounded : closest (root_twice (4 * n)) (4 * u) ≡ cond (ltb R (M - R * R)) (R + 1) R
   rounded =
       let c = compared (4 * n) ((2 * R + 1) * u) in
       let s = mul-pos U U in
       elim (cases_lt R (M - R * R)) [
         | inl a ↦
             let g : (R * R + R + 1) * (u * u) ≤ M * (u * u) = mul-le-mul_right (u * u) (omega arith) in
-            closest_inside (twice-sqrt-sticky (4 * n)) (4 * u) (R + 1) (omega arith) (omega (arith, upto)) ∙ sym (cond-true _ _ _ (lt-ltb R (M - R * R) a))
+            closest_inside (root_twice (4 * n)) (4 * u) (R + 1) (omega arith) (omega (arith, upto)) ∙ sym (cond-true _ _ _ (lt-ltb R (M - R * R) a))
         | inr b ↦
             let g : M * (u * u) ≤ (R * R + R) * (u * u) = mul-le-mul_right (u * u) (omega arith) in
-            closest_inside (twice-sqrt-sticky (4 * n)) (4 * u) R (omega (arith, from)) (omega arith) ∙ sym (cond-false _ _ _ (le-ltb R (M - R * R) b))
+            closest_inside (root_twice (4 * n)) (4 * u) R (omega (arith, from)) (omega arith) ∙ sym (cond-false _ _ _ (le-ltb R (M - R * R) b))
       ]
 
 pub root_near : (p n M j R : ℕ) → 2 ≤ p → n ≡ M * 4 ^ j → hidden p ≤ R → R < 2 ^ p → R * R ≤ M → M < (R + 1) * (R + 1)
-    → near p (twice-sqrt-sticky (4 * n)) 4 ≡ j * hidden p + cond (ltb R (M - R * R)) (R + 1) R
+    → near p (root_twice (4 * n)) 4 ≡ j * hidden p + cond (ltb R (M - R * R)) (R + 1) R
 root_near p n M j R P e a b l h =
     let u = 2 ^ j in
     let s : n ≡ M * (u * u) = e ∙ ap (λ (k : ℕ). M * k) (four_pow j) in
-    near_is p (twice-sqrt-sticky (4 * n)) 4 j P (omega arith)
+    near_is p (root_twice (4 * n)) 4 j P (omega arith)
     (inr (le_trans (mul-le-mul_right (4 * u) a) (from n M R u (pow_pos j) s l h)))
     (lt_of_lt_of_le (upto n M R u (pow_pos j) s l h) (mul-le-mul_right {m = R + 1} (4 * u) (omega arith)))
     ∙ ap (λ (k : ℕ). j * hidden p + k) (rounded n M R u (pow_pos j) s l h)
@@ -105,7 +105,7 @@ root_near p n M j R P e a b l h =
 -- ---- the law of the nearest root is the law of the nearest fraction, at `root_twice (4 * n) / 4`
 
 module _ (p e n m : ℕ) (P : 2 ≤ p) where
-  to_root : Nearest p e (twice-sqrt-sticky (4 * n)) 4 m → NearestRoot p e n m
+  to_root : Nearest p e (root_twice (4 * n)) 4 m → NearestRoot p e n m
   to_root h =
       record {
         held = h.held;
@@ -118,7 +118,7 @@ module _ (p e n m : ℕ) (P : 2 ≤ p) where
         );
       }
 
-  of_root : NearestRoot p e n m → Nearest p e (twice-sqrt-sticky (4 * n)) 4 m
+  of_root : NearestRoot p e n m → Nearest p e (root_twice (4 * n)) 4 m
   of_root h =
       record {
         held = h.held;
@@ -140,7 +140,7 @@ module _ (p e n m : ℕ) (P : 2 ≤ p) where
 
 pub root_nearest : (p e n : ℕ) → 2 ≤ p → 1 ≤ e → NearestRoot p e n (round_root p e n)
 unfolding round_root
-root_nearest p e n P E = to_root p e n (round_root p e n) P (round_nearest p e (twice-sqrt-sticky (4 * n)) 4 P E (omega arith))
+root_nearest p e n P E = to_root p e n (round_root p e n) P (round_nearest p e (root_twice (4 * n)) 4 P E (omega arith))
 
 pub root_one : (p e n m k : ℕ) → 2 ≤ p → 1 ≤ e → NearestRoot p e n m → NearestRoot p e n k → m ≡ k
-root_one p e n m k P E a b = nearest_one p e (twice-sqrt-sticky (4 * n)) 4 m k P E (omega arith) (of_root p e n m P a) (of_root p e n k P b)
+root_one p e n m k P E a b = nearest_one p e (root_twice (4 * n)) 4 m k P E (omega arith) (of_root p e n m P a) (of_root p e n k P b)

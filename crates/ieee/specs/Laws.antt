@@ -1,6 +1,6 @@
 -- What rounding has to be, in words that leave one answer only, for every precision of at least 2 and every greatest exponent of at least 1.
-use Rattle.std.specs.Prelude.{◌≡◌, ℕ, suc, ◌+◌, ◌-◌, ◌*◌, ◌%◌, ◌^◌, ◌<◌, ◌≤◌, Bool, true, false, cond, ℤ, pos, ◌≢◌}
-use Rattle.ieee.specs.Formats.{Value, not_number, infinite, finite, low, hidden, infinity, sign_weight, quiet, signed, steps, decode}
+use Rattle.std.specs.Prelude.{◌≡◌, ℕ, suc, ◌+◌, ◌-◌, ◌*◌, ◌%◌, ◌^◌, ◌<◌, ◌≤◌, Bool, true, false, ℤ, pos, ◌≢◌}
+use Rattle.ieee.specs.Formats.{Value, not_number, infinite, finite, low, infinity, sign_weight, quiet, signed, steps, decode}
 use Rattle.ieee.specs.Rounding.{Exact, none, endless, fraction, root, word}
 use Rattle.ieee.specs.Operations.{sum, opposite, unsigned, product, quotient, square_root, scaled, converted, add, sub, mul, div, sqrt, abs, number, floor, held_level, level_of}
 

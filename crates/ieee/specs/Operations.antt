@@ -1,5 +1,5 @@
 -- The operations. Each is an exact result of decoded values, and the word of that result. The smallest value is 2 ^ -l throughout.
-use Rattle.std.specs.Prelude.{ℕ, zero, suc, ◌+◌, ◌-◌, ◌*◌, ◌/◌, ◌%◌, ◌^◌, min, Bool, true, false, cond, not, ◌&&◌, ℤ, pos, negsuc, neg_ℤ, ◌==◌, nat_lt}
+use Rattle.std.specs.Prelude.{ℕ, suc, ◌+◌, ◌-◌, ◌*◌, ◌/◌, ◌%◌, ◌^◌, min, Bool, true, false, cond, not, ◌&&◌, ℤ, pos, negsuc, neg_ℤ, ◌==◌, nat_lt}
 use Rattle.std.specs.Bool.{beq}
 use Rattle.std.specs.Float.Ieee.Nearest.{closest}
 use Rattle.ieee.specs.Formats.{Value, not_number, infinite, finite, low, sign_weight, decode}

@@ -2,7 +2,7 @@
 use Rattle.std.specs.Prelude.{ℕ, ◌+◌, ◌-◌, ◌*◌, ◌/◌, ◌^◌, min, Bool}
 use Rattle.std.specs.Float.Ieee.{size}
 use Rattle.std.specs.Float.Ieee.Nearest.{closest}
-use Rattle.std.specs.Float.{twice-sqrt-sticky}
+use Rattle.std.specs.Float.Ieee.{root_twice}
 use Rattle.ieee.specs.Formats.{hidden, infinity, quiet, signed}
 
 -- The pattern nearest to n / d smallest values, as if there were no greatest exponent. Of the whole part the format keeps p digits and
@@ -17,8 +17,8 @@ round p e n d = min (near p n d) (infinity p e)
 
 -- the pattern nearest to √n smallest values: the odd number between stands for a root that is not whole
 unfoldable pub round_root : ℕ → ℕ → ℕ → ℕ
-unfolding round twice-sqrt-sticky
-round_root p e n = round p e (twice-sqrt-sticky (4 * n)) 4
+unfolding round root_twice
+round_root p e n = round p e (root_twice (4 * n)) 4
 
 -- The exact result of an operation: none, an infinity, n / d smallest values, or √n smallest values.
 pub data Exact : Type 0 where

@@ -1,5 +1,5 @@
 -- Sixteen lanes in lockstep: one address and one X, and a wake address for each lane.
-use Rattle.std.specs.Prelude.{◌≡◌, ℕ, zero, suc, ◌<◌, ◌≤◌, Bool, true, false, cond, ◌⊎◌, List, [], length, replicate, nat_lt, slice_index, slice_index_or}
+use Rattle.std.specs.Prelude.{◌≡◌, ℕ, zero, suc, ◌<◌, ◌≤◌, cond, List, [], length, replicate, nat_lt, slice_index, slice_index_or}
 use Rattle.units.specs.Rules.{Rules}
 use Rattle.program.specs.declared.word.Instruction.{Instruction}
 use Rattle.program.specs.declared.word.Instruction.TheVariants as ins

@@ -1,7 +1,7 @@
 -- The lines that the programs print, and what a word's line reads as. Assumes nothing.
 use Rattle.std.specs.Prelude.{◌≡◌, ℕ, ◌+◌, ◌-◌, ◌/◌, ◌%◌, ◌^◌, ◌≤◌, cond, ◌⊎◌, List, [], ◌∷◌, ◌++◌, map, take, drop, codes, decimal, nat_lt}
 use Rattle.std.specs.Int.Digits.{number_from_digits}
-use Rattle.std.specs.List.{AllByRecursion as All}
+use Rattle.std.specs.List.{AllByRecursion}
 use Rattle.listing.specs.declared.Layer.{Layer}
 use Rattle.listing.specs.declared.Layer.TheVariants.{Text, Program}
 use Rattle.listing.specs.declared.Refusal.{Refusal}
@@ -24,7 +24,7 @@ hex_value c = cond (nat_lt c 97) (c - 48) (c - 87)
 
 -- the line is five digits that read in base 16 as the low twenty bits of the word, and the newline
 pub record Reads (word : ℕ) (line : List ℕ) : Type 0 where
-  pub digits : All LowerHex (take 5 line)
+  pub digits : AllByRecursion LowerHex (take 5 line)
   pub low : number_from_digits 16 (map hex_value (take 5 line)) ≡ word % 2 ^ 20
   pub ends : drop 5 line ≡ 10 ∷ []
 

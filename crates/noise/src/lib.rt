@@ -1,5 +1,6 @@
 // The noise that dithers colours: 144 bits that step by a shift and four taps.
 #![tactic(auto)]
+
 mod dither;
 mod law;
 mod register;

@@ -1,7 +1,7 @@
 -- The slot limit: the weights from an address on, their sum and its bound, and that there is one limit.
 use Rattle.std.proofs.Common.{◌≡◌, ℕ, suc, ◌+◌, ◌-◌, ◌*◌, ◌<◌, ◌≤◌, List, [], ◌∷◌, length, get_or, set, Some, None, sum, Option, refl, inl, inr, arith}
 use native.Mathlib.Nat.{sub-zero}
-use Rattle.std.specs.List.{AllByRecursion as All}
+use Rattle.std.specs.List.{AllByRecursion}
 use Rattle.std.proofs.ByRecursion.{All-from_get_or, All-set, sum_by_le}
 use Rattle.std.proofs.lemmas.List.{ext_get_or, length-set, get_or-set_other}
 use Rattle.std.proofs.lemmas.List.Sums.{sum_by-cons, sum_by-set}
@@ -98,7 +98,7 @@ upto_more words a b limit more above body e p next total = record {
     w = weight_of body a
 
 -- two places of a list that hold 1 take most of their share from its sum
-sum_two : (ws : List ℕ) (i j : ℕ) → i < j → j < length ws → get_or ws i 0 ≡ 1 → get_or ws j 0 ≡ 1 → All (λ w. w ≤ 65536) ws → sum ws + 131070 ≤ length ws * 65536
+sum_two : (ws : List ℕ) (i j : ℕ) → i < j → j < length ws → get_or ws i 0 ≡ 1 → get_or ws j 0 ≡ 1 → AllByRecursion (λ w. w ≤ 65536) ws → sum ws + 131070 ≤ length ws * 65536
 sum_two ws i j lt high ei ej all =
     let xs : List ℕ = set ws i 65536 in
     let ys : List ℕ = set xs j 65536 in
@@ -108,7 +108,7 @@ sum_two ws i j lt high ei ej all =
     omega (arith, sum_by-set (λ x. x) ws i 65536 0 (omega arith), sum_by-set (λ x. x) xs j 65536 0 (omega arith), sum_by_le (λ x. x) 65536 ys (All-set (λ w. w ≤ 65536) xs j 65536 (omega arith) (All-set (λ w. w ≤ 65536) ws i 65536 (omega arith) all)))
 
 module _ {words : List ℕ} {limit : ℕ} (ok : Accepted words) (p : Limit words limit) where
-  all_weights : (m : ℕ) → ((a w : ℕ) → Weight words a w → w ≤ m) → All (λ w. w ≤ m) p.weights
+  all_weights : (m : ℕ) → ((a w : ℕ) → Weight words a w → w ≤ m) → AllByRecursion (λ w. w ≤ m) p.weights
   all_weights m h = All-from_get_or (λ w. w ≤ m) p.weights 0 (λ i l. let k : i < length words = omega (arith, p.each) in h i _ (p.right i k))
 
   -- neither a setx nor the last word is in a body

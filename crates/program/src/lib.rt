@@ -1,5 +1,6 @@
 // Programs of the core: words taken apart, the rules that a program has to keep, and its slot limit.
 #![tactic(auto)]
+
 ghost use Rattle.program.specs.Cases.{WorkedPrograms};
 
 mod fault;

@@ -1,5 +1,6 @@
 // Examples of programs: the slot limit of those that keep the rules, and why others are refused.
 #![tactic(auto)]
+
 ghost use Rattle.program_cases.specs.Answers.{Answered};
 
 use listing::Refusal;

@@ -1,5 +1,6 @@
 // Examples of the sinks, and what a put through one leaves of the memory that was lent.
 #![tactic(auto)]
+
 ghost use Rattle.std.specs.Prelude.{◌≡◌};
 ghost use Rattle.sinks.specs.Memories.{written, plain_block, packed_bytes, packed_picture};
 ghost use Rattle.sinks.specs.Pictures.{after_put};

@@ -1,6 +1,6 @@
 -- What a sink holds, and what a put and a get mean.
 use Rattle.std.specs.Prelude.{◌≡◌, ℕ, ◌-◌, ◌%◌, ◌<◌, ◌≤◌, cond, List, [], ◌++◌, map, length, take, Ok, Err, Result, nat_lt, slice_index, slice_index_or, slice_set}
-use Rattle.std.specs.List.{AllByRecursion as All}
+use Rattle.std.specs.List.{AllByRecursion}
 use Rattle.sinks.specs.declared.fault.Fault.{Fault}
 use Rattle.sinks.specs.declared.fault.Fault.TheVariants.{Place, Lane}
 
@@ -20,11 +20,11 @@ colour_of v = v % 4096
 
 -- sixteen colours
 abbrev pub GoodBlock : List ℕ → Type 0
-GoodBlock b = (length b ≡ 16) × All (λ c. c < 4096) b
+GoodBlock b = (length b ≡ 16) × AllByRecursion (λ c. c < 4096) b
 
 pub record Good (p : Picture) : Type 0 where
   pub few : block_count p ≤ most_blocks
-  pub colours : All GoodBlock p.blocks
+  pub colours : AllByRecursion GoodBlock p.blocks
 
 -- the picture with one block replaced
 unfoldable pub placed : Picture → ℕ → List ℕ → Picture

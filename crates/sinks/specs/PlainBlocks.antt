@@ -1,7 +1,7 @@
 -- Blocks of one number for each lane.
 use Rattle.std.specs.Prelude.{◌≡◌, ℕ, ◌+◌, ◌*◌, ◌<◌, ◌≤◌, List, [], ◌∷◌, length, drop, slice_index, refl}
 use Rattle.std.proofs.Common.{sym, ap, ◌∙◌, arith}
-use Rattle.std.specs.List.{AllByRecursion as All}
+use Rattle.std.specs.List.{AllByRecursion}
 use Rattle.std.proofs.lemmas.List.{length-map, get_or-map, get_or-take, get_or-drop, length-take, length-drop}
 use Rattle.sinks.specs.Pictures.{GoodBlock, colour_of}
 use Rattle.sinks.specs.Memories.{part_at, plain_block}
@@ -10,7 +10,7 @@ pub plain_twice : (values : List ℕ) → plain_block (plain_block values) ≡ p
 plain_twice [] = refl
 plain_twice (v ∷ vs) = rw (plain_twice vs) (ap (λ n. n ∷ plain_block vs) (omega arith))
 
-below : (values : List ℕ) → All (λ c. c < 4096) (plain_block values)
+below : (values : List ℕ) → AllByRecursion (λ c. c < 4096) (plain_block values)
 below [] = tt
 below (v ∷ vs) = (omega arith, below vs)
 

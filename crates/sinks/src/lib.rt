@@ -1,5 +1,6 @@
 // Where finished blocks go: sixteen 12-bit colours each, in memory that the caller lends.
 #![tactic(auto)]
+
 mod fault;
 mod law;
 mod packed;

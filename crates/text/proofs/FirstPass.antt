@@ -2,7 +2,7 @@
 use Rattle.std.proofs.Common.{◌≡◌, ℕ, suc, ◌+◌, ◌<◌, ◌≤◌, List, [], ◌∷◌, ◌++◌, length, take, drop, Some, None, Ok, Err, Option, sym, refl, ap, ◌∙◌, subst, ap₂, append_assoc, arith, length-append, length-drop}
 use Rattle.std.proofs.lemmas.List.{take_at, drop_at, drop-drop}
 use Rattle.std.proofs.ByRecursion.{All-append}
-use Rattle.std.specs.List.{prefix_len, AllByRecursion as All}
+use Rattle.std.specs.List.{prefix_len, AllByRecursion}
 use Rattle.text.specs.declared.fault.Fault.{Fault}
 use Rattle.text.specs.declared.fault.Fault.TheVariants.{TooLong, Grammar, Twice, NoRoom, Unknown}
 use Rattle.grammar.specs.declared.line.Line.{Line}
@@ -53,17 +53,17 @@ size_most None = omega arith
 size_most (Some x) = omega arith
 
 -- the label of a line lies in the text
-label_within : (text : List ℕ) (at : ℕ) (bytes : List ℕ) (address : ℕ) (label : Option (List ℕ)) (code : Option Ins) → LineAt text at bytes → Says bytes label code → All (Within text) (defined at bytes address label)
+label_within : (text : List ℕ) (at : ℕ) (bytes : List ℕ) (address : ℕ) (label : Option (List ℕ)) (code : Option Ins) → LineAt text at bytes → Says bytes label code → AllByRecursion (Within text) (defined at bytes address label)
 label_within text at bytes address None code t s = tt
 label_within text at bytes address (Some n) code t s =
     let there = t.within in
     (omega (arith, (label_place bytes n _ s.spelled.1).1), tt)
 
 -- so do the labels of all good lines
-pub lines_names : (text : List ℕ) (W L n : ℕ) (s : State) → Lines text W L n s → All (Within text) s.defs
+pub lines_names : (text : List ℕ) (W L n : ℕ) (s : State) → Lines text W L n s → AllByRecursion (Within text) s.defs
 lines_names text W L n s none = tt
 lines_names text W L n s (then {s = p} q a) =
-    subst (λ x. All (Within text) x.defs) (sym a.is)
+    subst (λ x. AllByRecursion (Within text) x.defs) (sym a.is)
     (All-append (Within text) p.defs _ (lines_names text W L _ p q) (label_within text p.at a.bytes (length p.code) a.label a.code a.there a.says))
 
 same_entry : (place at : ℕ) (bytes : List ℕ) (a b : ℕ) (label : Option (List ℕ)) → place ≡ at + prefix_len (goes_on run.Spaces) bytes → a ≡ b → labelled place a label ≡ defined at bytes b label
@@ -88,7 +88,7 @@ module _ {text : List ℕ} {W : ℕ} {old : List Label} {at line : ℕ} {c : Cou
   pub filled : Filled text c labels × (c.words ≤ W)
   filled =
       let r = h.room in
-      (record { inside = omega (arith, long_is, h.labels_are); names = subst (All (Within text)) (sym front_is) (lines_names text W (length old) line h.state h.lines) }, omega (arith, h.words_are))
+      (record { inside = omega (arith, long_is, h.labels_are); names = subst (AllByRecursion (Within text)) (sym front_is) (lines_names text W (length old) line h.state h.lines) }, omega (arith, h.words_are))
 
   -- the facts of the code, at the state
   fresh_there : (label : Option (List ℕ)) → Fresh text (take c.labels labels) label → Fresh text h.state.defs label

@@ -1,6 +1,6 @@
 -- A text has one outcome.
 use Rattle.std.proofs.Common.{◌≡◌, ℕ, suc, ◌+◌, ◌<◌, ◌≤◌, ◌⊎◌, List, [], ◌∷◌, ◌++◌, length, drop, Ok, Err, Option, Result, sym, refl, ap, ◌∙◌, ap₂, inl, inr, append_assoc, append-nil, arith, take-append-drop}
-use Rattle.std.specs.List.{AllByRecursion as All}
+use Rattle.std.specs.List.{AllByRecursion}
 use Rattle.std.proofs.lemmas.List.{drop-drop}
 use Rattle.std.proofs.lemmas.Bool.{cases_lt}
 use Rattle.text.specs.declared.fault.Fault.{Fault}
@@ -88,14 +88,14 @@ module _ {text : List ℕ} {W L : ℕ} where
 
 module _ {X : Type 0} (P : X → Type 0) where
   -- the first element without the property is one
-  pub first_one : (x y : X) (a b c d : List X) → a ++ x ∷ c ≡ b ++ y ∷ d → All P a → All P b → (P x → ⊥) → (P y → ⊥) → x ≡ y
+  pub first_one : (x y : X) (a b c d : List X) → a ++ x ∷ c ≡ b ++ y ∷ d → AllByRecursion P a → AllByRecursion P b → (P x → ⊥) → (P y → ⊥) → x ≡ y
   first_one x y [] [] c d e pa pb nx ny = cc
   first_one x y [] (z ∷ b) c d e pa pb nx ny = let h : x ≡ z = cc in absurd (nx (rw h pb.0))
   first_one x y (z ∷ a) [] c d e pa pb nx ny = let h : y ≡ z = cc in absurd (ny (rw h pa.0))
   first_one x y (z ∷ a) (w ∷ b) c d e pa pb nx ny = first_one x y a b c d (cc) pa.1 pb.1 nx ny
 
   -- an element of a list whose elements all have it
-  pub all_at : (x : X) (a c : List X) → All P (a ++ x ∷ c) → P x
+  pub all_at : (x : X) (a c : List X) → AllByRecursion P (a ++ x ∷ c) → P x
   all_at x [] c h = h.0
   all_at x (z ∷ a) c h = all_at x a c h.1
 
@@ -172,7 +172,7 @@ module _ (text words : List ℕ) (labels : List Label) where
 
   -- a whole text whose labels are all known
   abbrev Resolves : Type 0
-  Resolves = (s : State) × Wholly s × All (Known text s) s.code
+  Resolves = (s : State) × Wholly s × AllByRecursion (Known text s) s.code
 
   module _ {line : ℕ} {w : List ℕ} {l : List Label} where
     flawed_reached : (f : Flaw) (h : Stopped text words labels line w l (Why f)) → Reached h.before h.state

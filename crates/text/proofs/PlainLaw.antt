@@ -1,6 +1,6 @@
 -- A program in the plain layout is assembled to its words.
 use Rattle.std.proofs.Common.{◌≡◌, ℕ, suc, ◌<◌, ◌≤◌, List, [], ◌∷◌, ◌++◌, map, length, drop, Ok, Result, sym, refl, ap, ◌∙◌, subst, ap₂, arith}
-use Rattle.std.specs.List.{AllByRecursion as All}
+use Rattle.std.specs.List.{AllByRecursion}
 use Rattle.text.specs.declared.fault.Fault.{Fault}
 use Rattle.text.specs.declared.table.Counts.{Counts}
 use Rattle.text.specs.declared.table.Label.{Label}
@@ -35,11 +35,11 @@ module _ (text : List ℕ) (defs : List Label) (n : ℕ) (labelled : Labelled te
   plain_target nop t = refl
 
   -- so it is for all instructions of a program
-  all_known : (line : ℕ) (ps : List Plain) → All Holds ps → All (λ p. target p ≤ n) ps → All (λ c. Resolved text defs c.ins) (codes_from line ps)
+  all_known : (line : ℕ) (ps : List Plain) → AllByRecursion Holds ps → AllByRecursion (λ p. target p ≤ n) ps → AllByRecursion (λ c. Resolved text defs c.ins) (codes_from line ps)
   all_known line [] h t = tt
   all_known line (p ∷ ps) h t = (plain_known p h.0 t.0, all_known (suc line) ps h.1 t.1)
 
-  all_words : (line : ℕ) (ps : List Plain) → All (λ p. target p ≤ n) ps → map (λ c. word_in text defs c.ins) (codes_from line ps) ≡ map plain_word ps
+  all_words : (line : ℕ) (ps : List Plain) → AllByRecursion (λ p. target p ≤ n) ps → map (λ c. word_in text defs c.ins) (codes_from line ps) ≡ map plain_word ps
   all_words line [] t = refl
   all_words line (p ∷ ps) t = ap₂ ◌∷◌ (ap (word_of (written p)) (plain_target p t.0)) (all_words (suc line) ps t.1)
 
@@ -54,7 +54,7 @@ assembled ps words labels p f =
     record {
       state = f.last;
       whole = record { short = omega (arith, layout_short 0 ps (omega arith) p.holds); count = f.count; lines = f.lines; ended = f.ended };
-      known = subst (All (Known (layout ps) f.last)) (sym f.code) (all_known (layout ps) f.last.defs (length ps) f.labelled 1 ps p.holds p.inside);
+      known = subst (AllByRecursion (Known (layout ps) f.last)) (sym f.code) (all_known (layout ps) f.last.defs (length ps) f.labelled 1 ps p.holds p.inside);
       words_count = sym (ap length f.code ∙ codes_length 1 ps);
       labels_count = sym f.defs;
       words_are = rw (f.code, all_words (layout ps) f.last.defs (length ps) f.labelled 1 ps p.inside, codes_length 1 ps);

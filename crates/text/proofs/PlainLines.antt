@@ -1,6 +1,6 @@
 -- The lines of the plain layout: each says its label and its instruction.
 use Rattle.std.proofs.Common.{◌≡◌, ℕ, ◌*◌, ◌≤◌, true, List, [], ◌∷◌, ◌++◌, map, length, Some, None, decimal, Option, refl, arith, length-append}
-use Rattle.std.specs.List.{AllByRecursion as All}
+use Rattle.std.specs.List.{AllByRecursion}
 use Rattle.std.proofs.ByRecursion.{All-append, All-weaker}
 use Rattle.grammar.specs.Bytes.{goes_on}
 use Rattle.grammar.specs.declared.token.Run.TheVariants.{Spaces, Name, Line}
@@ -23,7 +23,7 @@ good_range (num v) g = g
 good_range (lab n) g = tt
 
 -- what the word formats hold is written so
-good_operands : (p : Plain) → Holds p → All Good (operands_of (written p))
+good_operands : (p : Plain) → Holds p → AllByRecursion Good (operands_of (written p))
 good_operands (binary op d a b) (_, h, k, l) = (h, (k, (l, tt)))
 good_operands (unary op d a) (_, h, k) = (h, (k, tt))
 good_operands (cmov d a b) (_, h, k, l) = (h, (k, (l, tt)))
@@ -75,11 +75,11 @@ operand_spelled : (o : Opd) (os : List Opd) → Good o → Next (32 ∷ (operand
 operand_spelled o os g = spaced (operand_text o) (token o) (tail_text os) (spells_operand o g) (parted o os)
 
 -- operands as text spell their tokens
-tail_spelled : (os : List Opd) → All Good os → Spelled (tail_text os) (tailed os)
+tail_spelled : (os : List Opd) → AllByRecursion Good os → Spelled (tail_text os) (tailed os)
 tail_spelled [] g = silence
 tail_spelled (o ∷ os) g = (_, next_at [] (44 ∷ []) comma _ tt refl tt, (_, operand_spelled o os g.0, tail_spelled os g.1))
 
-list_spelled : (os : List Opd) → All Good os → Spelled (list_text os) (listed os)
+list_spelled : (os : List Opd) → AllByRecursion Good os → Spelled (list_text os) (listed os)
 unfolding tail_spelled
 list_spelled [] g = silence
 list_spelled (o ∷ os) g = (tail_spelled (o ∷ os) g).2
@@ -128,11 +128,11 @@ operand_line (lab n) g = name_line n g.all
 abbrev flows : ℕ → Type 0
 flows b = goes_on Line b ≡ true
 
-tail_line : (os : List Opd) → All Good os → Runs Line (tail_text os)
+tail_line : (os : List Opd) → AllByRecursion Good os → Runs Line (tail_text os)
 tail_line [] g = tt
 tail_line (o ∷ os) g = (refl, (refl, All-append flows _ _ (operand_line o g.0) (tail_line os g.1)))
 
-list_line : (os : List Opd) → All Good os → Runs Line (list_text os)
+list_line : (os : List Opd) → AllByRecursion Good os → Runs Line (list_text os)
 list_line [] g = tt
 list_line (o ∷ os) g = (tail_line (o ∷ os) g).1
 
@@ -147,7 +147,7 @@ line_solid k o h g = All-append flows (label_name k) _ (name_line (label_name k)
 register_short : (v : ℕ) → v ≤ 31 → length (operand_text (reg v)) ≤ 3
 register_short v h = omega (arith, number_short 2 v (omega arith) (omega arith) (omega arith))
 
-registers_short : (vs : List ℕ) → All (λ v. v ≤ 31) vs → length (tail_text (map reg vs)) ≤ 5 * length vs
+registers_short : (vs : List ℕ) → AllByRecursion (λ v. v ≤ 31) vs → length (tail_text (map reg vs)) ≤ 5 * length vs
 registers_short [] h = omega arith
 registers_short (v ∷ vs) h = simp length-append (omega (arith, register_short v h.0, registers_short vs h.1))
 

@@ -1,6 +1,6 @@
 -- The lines of the plain layout, one after the other, with the labels and instructions that they leave.
 use Rattle.std.proofs.Common.{◌≡◌, ℕ, suc, ◌+◌, ◌*◌, ◌<◌, ◌≤◌, true, false, List, [], ◌∷◌, ◌++◌, length, take, drop, Some, None, Option, sym, refl, ap, ◌∙◌, subst, inl, inr, append_assoc, arith, length-append}
-use Rattle.std.specs.List.{AllByRecursion as All}
+use Rattle.std.specs.List.{AllByRecursion}
 use Rattle.std.specs.Str.{bytes_eq}
 use Rattle.std.proofs.lemmas.List.{take_at, drop_at, append-nil}
 use Rattle.std.proofs.lemmas.Slice.Eq.{bytes_eq-Decides}
@@ -122,7 +122,7 @@ module _ (text : List ℕ) (W L n : ℕ) (small : n ≤ 2048) (words : n ≤ W) 
       record { last = f.last; count = f.count; lines = f.lines; ended = f.ended; labelled = f.labelled; defs = f.defs; code = f.code ∙ append_assoc s.code _ _ }
 
   -- the lines from k on
-  finish : (k : ℕ) (ps : List Plain) (front : List ℕ) (s : State) → text ≡ front ++ layout_from k ps → k + length ps ≡ n → All Holds ps → Ready text front k s → Lines text W L k s → Finished text W L n s (suc k) ps
+  finish : (k : ℕ) (ps : List Plain) (front : List ℕ) (s : State) → text ≡ front ++ layout_from k ps → k + length ps ≡ n → AllByRecursion Holds ps → Ready text front k s → Lines text W L k s → Finished text W L n s (suc k) ps
   finish k [] front s is c a r l =
       let e : text ≡ front ++ (line_text k None ++ []) = is ∙ ap (λ x. front ++ x) (sym (append-nil _)) in
       let q : k ≡ n = omega arith in
@@ -150,12 +150,12 @@ module _ (text : List ℕ) (W L n : ℕ) (small : n ≤ 2048) (words : n ≤ W) 
       grown k p ps s (finish (suc k) ps _ (next k s (Some p)) more (omega arith) a.1 ready (then l (step text front rest k (Some p) s h e r W L refl a.0 (omega arith) (omega arith))))
 
   -- all lines of a program
-  pub finished : (ps : List Plain) → text ≡ layout_from 0 ps → length ps ≡ n → All Holds ps → Finished text W L n start 1 ps
+  pub finished : (ps : List Plain) → text ≡ layout_from 0 ps → length ps ≡ n → AllByRecursion Holds ps → Finished text W L n start 1 ps
   finished ps is c a =
       finish 0 ps [] start is (omega arith) a (record { place = refl; labels = record { known = λ m q. absurd (omega arith); fresh = λ m q w. refl }; defs = refl; codes = refl }) none
 
 -- a line has at most 26 bytes and its end, and the last one six
-pub layout_short : (k : ℕ) (ps : List Plain) → k + length ps ≤ 2048 → All Holds ps → length (layout_from k ps) ≤ 27 * length ps + 6
+pub layout_short : (k : ℕ) (ps : List Plain) → k + length ps ≤ 2048 → AllByRecursion Holds ps → length (layout_from k ps) ≤ 27 * length ps + 6
 layout_short k [] h a = simp length-append (omega (arith, label_short k (omega arith)))
 layout_short k (p ∷ ps) h a =
     omega (arith, ap length (layout_line k p ps) ∙ length-append (line_text k (Some p)) _, line_short k p (omega arith) a.0, layout_short (suc k) ps (omega arith) a.1)

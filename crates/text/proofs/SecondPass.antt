@@ -1,7 +1,7 @@
 -- The second reading: the labels of the lines so far are known, and their words are written.
 use Rattle.std.proofs.Common.{◌≡◌, ℕ, suc, ◌+◌, ◌<◌, ◌≤◌, List, [], ◌∷◌, ◌++◌, length, drop, set, IfSome, Some, None, Ok, Err, Option, Result, sym, refl, ap, ◌∙◌, subst, ap₂, append_assoc, append-nil, arith, length-append}
 use Rattle.std.specs.Option.{option_map}
-use Rattle.std.specs.List.{AllByRecursion as All}
+use Rattle.std.specs.List.{AllByRecursion}
 use Rattle.std.proofs.ByRecursion.{All-push}
 use Rattle.std.proofs.lemmas.List.{drop_more, set_at, map_push, length-map}
 use Rattle.text.specs.declared.assembly.Pass.{Pass}
@@ -28,7 +28,7 @@ pub record Upto (text : List ℕ) (L : ℕ) (old : List ℕ) (s : State) (pass :
   pub lines : Lines text (length old) L line state
   pub at_is : at ≡ state.at
   pub written_is : written ≡ length state.code
-  pub known : All (Known text s) state.code
+  pub known : AllByRecursion (Known text s) state.code
   pub words_are : Leaves pass (words_of text s state.code ++ drop written old) old words
   pub few : (written ≤ line) × (line ≤ at) × (at ≤ suc (length text))
 
@@ -81,7 +81,7 @@ module _ {text : List ℕ} {L : ℕ} {old : List ℕ} {s : State} {pass : Pass} 
           lines = subst (λ m. Lines text (length old) L m next) (sym e) (then h.lines step);
           at_is = f ∙ sym place;
           written_is = h.written_is ∙ ap length (sym same);
-          known = subst (All (Known text s)) (sym same) h.known;
+          known = subst (AllByRecursion (Known text s)) (sym same) h.known;
           words_are = subst (λ l. Leaves pass (words_of text s l ++ drop written old) old words) (sym same) h.words_are;
           few = (omega (arith, h.few.0), omega (arith, h.few.1), omega (arith, there.within));
         }
@@ -127,7 +127,7 @@ module _ {text : List ℕ} {L : ℕ} {old : List ℕ} {s : State} {pass : Pass} 
             lines = subst (λ i. Lines text (length old) L i next) (sym e) (then h.lines step);
             at_is = f ∙ sym place;
             written_is = omega (arith, h.written_is, ap length codes, length-append h.state.code (next_code ∷ []));
-            known = subst (All (Known text s)) (sym codes) (All-push (Known text s) h.state.code next_code h.known resolved);
+            known = subst (AllByRecursion (Known text s)) (sym codes) (All-push (Known text s) h.state.code next_code h.known resolved);
             words_are = subst (λ i. Leaves pass (words_of text s next.code ++ drop i old) old words') (sym g) (subst (λ l. Leaves pass (l ++ drop (written + 1) old) old words') (sym all) (leaves_more pass front old words words' written w room long h.words_are put));
             few = (omega (arith, h.few.0), omega (arith, h.few.1), omega (arith, there.within));
           }
@@ -137,12 +137,12 @@ module _ {text : List ℕ} {L : ℕ} {old : List ℕ} {s : State} {pass : Pass} 
   ends short past =
       let read : Whole text (length old) L h.state = record { short = short; count = line; lines = h.lines; ended = omega (arith, h.at_is, h.few.2) } in
       let same = whole_one h.state s read whole in (
-        subst (λ t. All (Known text s) t.code) same h.known,
+        subst (λ t. AllByRecursion (Known text s) t.code) same h.known,
         subst (λ t. Leaves pass (words_of text s t.code ++ drop (length t.code) old) old words) same (subst (λ i. Leaves pass (words_of text s h.state.code ++ drop i old) old words) h.written_is h.words_are),
       )
 
 -- where all labels are known, the reading that writes does not stop
-pub wrote : (text : List ℕ) (s : State) (r : Result (Unit {0}) Fault) (words mid words' : List ℕ) → All (Known text s) s.code → mid ≡ words → SecondRead text s Write r mid words' → WordsRead text s r words words'
+pub wrote : (text : List ℕ) (s : State) (r : Result (Unit {0}) Fault) (words mid words' : List ℕ) → AllByRecursion (Known text s) s.code → mid ≡ words → SecondRead text s Write r mid words' → WordsRead text s r words words'
 wrote text s (Ok u) words mid words' known e k = (k.0, k.1 ∙ ap (λ l. words_of text s s.code ++ drop (length s.code) l) e)
 wrote text s (Err TooLong) words mid words' known e k = absurd k
 wrote text s (Err (Grammar n)) words mid words' known e k = absurd k
@@ -150,4 +150,4 @@ wrote text s (Err (Twice n)) words mid words' known e k = absurd k
 wrote text s (Err (NoRoom n)) words mid words' known e k = absurd k
 wrote text s (Err (Unknown n)) words mid words' known e k =
     let first = k.0 in
-    absurd (first.unknown (all_at (Known text s) first.lost first.front first.back (subst (All (Known text s)) first.cut known)))
+    absurd (first.unknown (all_at (Known text s) first.lost first.front first.back (subst (AllByRecursion (Known text s)) first.cut known)))

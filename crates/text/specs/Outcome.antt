@@ -1,6 +1,6 @@
 -- What becomes of a text: the words and labels of its lines, or a refusal.
 use Rattle.std.specs.Prelude.{◌≡◌, ℕ, zero, suc, ◌+◌, ◌<◌, ◌≤◌, List, [], ◌∷◌, ◌++◌, map, length, take, drop, IfSome, Some, None, Ok, Err, Option, Result}
-use Rattle.std.specs.List.{prefix_len, AllByRecursion as All}
+use Rattle.std.specs.List.{prefix_len, AllByRecursion}
 use Rattle.text.specs.declared.fault.Fault.{Fault}
 use Rattle.text.specs.declared.fault.Fault.TheVariants.{TooLong, Grammar, Twice, NoRoom, Unknown}
 use Rattle.text.specs.declared.table.Counts.{Counts}
@@ -131,7 +131,7 @@ pub record FirstLost (text : List ℕ) (s : State) (line : ℕ) : Type 0 where
   pub lost : Code
   pub back : List Code
   pub cut : s.code ≡ front ++ lost ∷ back
-  pub known : All (Known text s) front
+  pub known : AllByRecursion (Known text s) front
   pub unknown : Known text s lost → ⊥
   pub number : line ≡ lost.line
 
@@ -147,7 +147,7 @@ pub record Lost (text words : List ℕ) (labels : List Label) (line : ℕ) (word
 pub record Assembled (text words : List ℕ) (labels : List Label) (c : Counts) (words' : List ℕ) (labels' : List Label) : Type 0 where
   pub state : State
   pub whole : Whole text (length words) (length labels) state
-  pub known : All (Known text state) state.code
+  pub known : AllByRecursion (Known text state) state.code
   pub words_count : c.words ≡ length state.code
   pub labels_count : c.labels ≡ length state.defs
   pub words_are : words' ≡ map (λ i. word_in text state.defs i.ins) state.code ++ drop (length state.code) words

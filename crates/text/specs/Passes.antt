@@ -1,7 +1,7 @@
 -- What the two readings of a text promise each other.
 use Rattle.std.specs.Prelude.{◌≡◌, ℕ, ◌+◌, ◌≤◌, List, ◌++◌, map, length, take, drop, IfSome, Ok, Err, Option, Result}
 use Rattle.std.specs.Option.{option_map}
-use Rattle.std.specs.List.{AllByRecursion as All}
+use Rattle.std.specs.List.{AllByRecursion}
 use Rattle.text.specs.declared.assembly.Pass.{Pass}
 use Rattle.text.specs.declared.assembly.Pass.TheVariants.{Check, Write}
 use Rattle.text.specs.declared.fault.Fault.{Fault}
@@ -18,7 +18,7 @@ use Rattle.text.specs.Outcome.{Code, State, Whole, Known, Fresh, size, Places, F
 -- the labels that are entered, and their names lie in the text
 pub record Filled (text : List ℕ) (c : Counts) (labels : List Label) : Type 0 where
   pub inside : c.labels ≤ length labels
-  pub names : All (Within text) (take c.labels labels)
+  pub names : AllByRecursion (Within text) (take c.labels labels)
 
 -- a line is good, or why it is not
 abbrev pub Checked : List ℕ → ℕ → ℕ → List Label → Counts → List ℕ → ℕ → Result Line Fault → Type 0
@@ -56,7 +56,7 @@ words_of text s cs = map (λ c. word_in text s.defs c.ins) cs
 
 -- what a second reading finds
 abbrev pub SecondRead : List ℕ → State → Pass → Result (Unit {0}) Fault → List ℕ → List ℕ → Type 0
-SecondRead text s pass (Ok u) words words' = All (Known text s) s.code × Leaves pass (words_of text s s.code ++ drop (length s.code) words) words words'
+SecondRead text s pass (Ok u) words words' = AllByRecursion (Known text s) s.code × Leaves pass (words_of text s s.code ++ drop (length s.code) words) words words'
 SecondRead text s pass (Err TooLong) words words' = ⊥
 SecondRead text s pass (Err (Grammar n)) words words' = ⊥
 SecondRead text s pass (Err (Twice n)) words words' = ⊥

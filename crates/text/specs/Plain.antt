@@ -1,6 +1,6 @@
 -- One plain layout of a program: each instruction on a line of its own, with its address as a label.
 use Rattle.std.specs.Prelude.{◌≡◌, ℕ, suc, ◌<◌, ◌≤◌, List, [], ◌∷◌, ◌++◌, map, length, drop, Ok, decimal, Result}
-use Rattle.std.specs.List.{AllByRecursion as All}
+use Rattle.std.specs.List.{AllByRecursion}
 use Rattle.text.specs.declared.fault.Fault.{Fault}
 use Rattle.grammar.specs.declared.instruction.Binary.{Binary}
 use Rattle.grammar.specs.declared.instruction.Unary.{Unary}
@@ -89,8 +89,8 @@ layout ps = layout_from 0 ps
 -- a program of the word formats whose targets lie in it or just behind it
 pub record Program (ps : List Plain) : Type 0 where
   pub short : length ps ≤ 2048
-  pub holds : All Holds ps
-  pub inside : All (λ p. target p ≤ length ps) ps
+  pub holds : AllByRecursion Holds ps
+  pub inside : AllByRecursion (λ p. target p ≤ length ps) ps
 
 -- writing a program in the plain layout and assembling it gives back its words
 abbrev pub GivesBack : List ℕ → List ℕ → List Label → Result Counts Fault → List ℕ → Type 0

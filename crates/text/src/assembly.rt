@@ -1,7 +1,7 @@
 // A text to words and labels: one reading fills the label table, a second looks the labels up.
 ghost use Rattle.std.specs.Prelude.{◌≡◌, ℕ, ◌+◌, ◌^◌, ◌<◌, ◌≤◌, ◌++◌, length, take, drop, Decides, nat_lt, slice_set};
 ghost use Rattle.std.specs.Option.{option_map};
-ghost use Rattle.std.specs.List.{AllByRecursion as All};
+ghost use Rattle.std.specs.List.{AllByRecursion};
 ghost use Rattle.grammar.specs.Forms.{ins, Formed};
 ghost use Rattle.grammar.specs.Lines.{label_in, code_in};
 ghost use Rattle.text.specs.Outcome.{LineAt, Outcome, OneOutcome, State, Whole, size, labelled, Fresh, Places};
@@ -46,7 +46,7 @@ fn label_used<'a>(code: Instruction<'a>) -> Option<&'a [u8]>
 
 // The word of an instruction, or none where its label is unknown or lies above 2,047.
 fn word_for(text: &[u8], labels: &[Label], code: Instruction) -> Option<u32>
-    requires { (Formed (ins code)) × (All (Within text.now) labels.now) }
+    requires { (Formed (ins code)) × (AllByRecursion (Within text.now) labels.now) }
     ensures { WordFor text.now labels.now (ins code.entry) result }
 {
     match label_used(code) {
@@ -63,7 +63,7 @@ fn word_for(text: &[u8], labels: &[Label], code: Instruction) -> Option<u32>
 
 // Whether no earlier line has the label.
 fn is_free(text: &[u8], labels: &[Label], label: Option<&[u8]>) -> bool
-    requires { All (Within text.now) labels.now }
+    requires { AllByRecursion (Within text.now) labels.now }
     ensures { Decides result (Fresh text.now labels.now (option_map (λ x. x.now) label.entry)) }
 {
     match label {

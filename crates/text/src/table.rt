@@ -1,6 +1,6 @@
 // The labels of a text, in a table that the caller lends.
 ghost use Rattle.std.specs.Prelude.{◌≡◌, true};
-ghost use Rattle.std.specs.List.{AllByRecursion as All};
+ghost use Rattle.std.specs.List.{AllByRecursion};
 ghost use Rattle.std.specs.Str.{bytes_eq};
 ghost use Rattle.text.specs.Table.{name_in, address_of, Within};
 
@@ -40,7 +40,7 @@ fn is_named(text: &[u8], label: Label, name: &[u8]) -> bool
 
 // The address of the label with this name.
 pub(crate) fn address_of(text: &[u8], labels: &[Label], name: &[u8]) -> Option<usize>
-    requires { All (Within text.now) labels.now }
+    requires { AllByRecursion (Within text.now) labels.now }
     ensures { result ≡ address_of text.now labels.now name.now }
 {
     for label in labels {

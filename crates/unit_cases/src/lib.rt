@@ -1,5 +1,6 @@
 // Worked words of the two units: a list of theorems, and tests.
 #![tactic(auto)]
+
 ghost use Rattle.unit_cases.specs.Worked.{HalfWords, SingleWords};
 
 #[cfg(test)]

@@ -1,7 +1,7 @@
 -- A number scaled by a power of four, so that its root has a format's digits; and the pattern of that root.
 use Rattle.std.proofs.Common.{◌≡◌, ℕ, zero, suc, ◌+◌, ◌-◌, ◌*◌, ◌/◌, ◌%◌, ◌^◌, ◌<◌, ◌≤◌, Bool, true, false, eqb, ltb, ◌⊎◌, sym, refl, ap, ◌∙◌, inl, inr, mul-le-mul_right, suc-mul, add-mul, lt_of_mul-lt-mul_right, arith}
 use native.Mathlib.Nat.{pow-succ'}
-use Rattle.std.specs.Float.{twice-sqrt-sticky}
+use lib.Ieee.{root_twice}
 use Rattle.std.proofs.lemmas.Nat.{pow-add, shl_whole, shl_below}
 use Rattle.std.proofs.lemmas.Bool.{cases_lt, cases_Bool, cond-true, cond-false, ne_eqb}
 use Rattle.ieee.specs.Formats.{hidden, infinity, low, steps, quiet, signed, finite}
@@ -124,9 +124,9 @@ root_is p e m k d j n r x =
     let P : 2 ≤ p = omega (arith, x.least) in
     let c = root_digits p n x.near_root.whole P x.low_n x.high_n x.near_root.low x.near_root.high in
     let s : steps p m * 2 ^ low p e ≡ n * 4 ^ j = ap (λ (y : ℕ). y * 2 ^ low p e) x.value ∙ (pow_join d k (low p e) ∙ x.scaled) in
-    let v : near p (twice-sqrt-sticky (4 * (steps p m * 2 ^ low p e))) 4 ≡ j * hidden p + r =
+    let v : near p (root_twice (4 * (steps p m * 2 ^ low p e))) 4 ≡ j * hidden p + r =
     root_near p (steps p m * 2 ^ low p e) n j x.near_root.whole P s c.0 c.1 x.near_root.low x.near_root.high ∙ ap (λ (y : ℕ). j * hidden p + y) (sym x.near_root.value) in
-    sym (round_near p e (twice-sqrt-sticky (4 * (steps p m * 2 ^ low p e))) 4 (j * hidden p + r) v (root_bound p e m k d j n r x))
+    sym (round_near p e (root_twice (4 * (steps p m * 2 ^ low p e))) 4 (j * hidden p + r) v (root_bound p e m k d j n r x))
 
 pub exponent_bound : (p e m k d : ℕ) → 1 ≤ e → e ≤ 127 → m < infinity p e → m ≡ k * hidden p + d → (k ≡ 0) ⊎ (hidden p ≤ d) → k < 254
 exponent_bound p e m k d E B h s l = omega (arith, exponent_below p e m k d E h s l)

@@ -1,5 +1,5 @@
 -- What the clauses on patterns cite.
-use Rattle.std.specs.Prelude.{◌≡◌, ℕ, ◌+◌, ◌-◌, ◌*◌, ◌/◌, ◌%◌, ◌^◌, ◌<◌, ◌≤◌, Bool, cond, not, ◌==◌, nat_le, nat_lt}
+use Rattle.std.specs.Prelude.{◌≡◌, ℕ, ◌+◌, ◌-◌, ◌*◌, ◌/◌, ◌^◌, ◌<◌, ◌≤◌, Bool, cond, not, ◌==◌, nat_le, nat_lt}
 use Rattle.ieee.specs.Formats.{not_number, infinite, finite, hidden, infinity, sign_weight, quiet, steps, low}
 use Rattle.ieee.specs.Rounding.{round, round_root}
 use Rattle.ieee.specs.Formats as Formats

@@ -1,5 +1,6 @@
 // The arithmetic units of the shader core: what a unit is, and two of them, half and single.
 #![tactic(auto)]
+
 mod half;
 mod pattern;
 mod single;

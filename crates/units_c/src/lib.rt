@@ -1,5 +1,6 @@
 // The two units' functions for C: each is the method of its name.
 #![tactic(auto)]
+
 ghost use Rattle.std.specs.Prelude.{◌≡◌};
 ghost use Rattle.units.specs.Rules.{half, single};
 

@@ -15,5 +15,5 @@ returns-in-Some c = record {
 pub returns-in-None : goal.returns-in-None
 returns-in-None c = absurd (c.requires.0.loops_good c.args.a (unfed_wrong {t = c.in-Some-Loop.target} (record { within = c.requires.1.0; is = cc }) c.in-None.ensures))
 
-pub returns-in-default : goal.returns-in-default
-returns-in-default c = next_down c.args.words.now c.args.a c.args.above (λ t p. grind arith) c.requires.1.1
+pub returns-in_default : goal.returns-in_default
+returns-in_default c = next_down c.args.words.now c.args.a c.args.above (λ t p. grind arith) c.requires.1.1

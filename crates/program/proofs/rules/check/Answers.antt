@@ -15,4 +15,4 @@ pub returns-in-Some-first-5 : goal.returns-in-Some-first-5
 returns-in-Some-first-5 c = record { outcome = search rules; alone = outcome_one c.args.words.now }
 
 pub returns : goal.returns
-returns c = record { outcome = (search rules, c.slot-limit.ensures.limit, c.slot-limit.ensures.most); alone = outcome_one c.args.words.now }
+returns c = record { outcome = (search rules, c.slot_limit.ensures.limit, c.slot_limit.ensures.most); alone = outcome_one c.args.words.now }

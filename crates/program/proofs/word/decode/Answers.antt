@@ -35,6 +35,6 @@ pub returns-in-4-to-6 : goal.returns-in-4-to-6
 unfolding decoded
 returns-in-4-to-6 c = grind (arith, nat_tests)
 
-pub returns-in-default-2 : goal.returns-in-default-2
+pub returns-in_default-2 : goal.returns-in_default-2
 unfolding decoded
-returns-in-default-2 c = grind (arith, nat_tests)
+returns-in_default-2 c = grind (arith, nat_tests)

@@ -5,6 +5,6 @@ use Rattle.sinks.proofs.law.put_then_get.Goals as goal
 pub returns : goal.returns
 returns g c =
     record {
-      outcome = then_got _ c.args.place c.args.colours.now _ _ c.put.ensures.outcome c.in-ok-put.was c.args.at c.args.lane _ c.told-colours c.get.ensures;
+      outcome = then_got _ c.args.place c.args.colours.now _ _ c.put.ensures.outcome c.in_ok-put.was c.args.at c.args.lane _ c.told-colours c.get.ensures;
       lent = c.put.ensures.lent;
     }

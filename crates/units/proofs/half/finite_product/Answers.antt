@@ -8,8 +8,8 @@ use Rattle.units.proofs.Halves.{exponent_half, product_whole, product_below, pro
 -- src/half.rt:119:9
 pub rounded-pattern-requires-else-x-y-lt24 : goal.rounded-pattern-requires-else-x-y-lt24
 rounded-pattern-requires-else-x-y-lt24 c =
-    let a = c.parts-of-a.ensures in
-    let b = c.parts-of-b.ensures in
+    let a = c.parts_of-a.ensures in
+    let b = c.parts_of-b.ensures in
     let x = exponent_half c.args.m _ _ c.requires.0 a.parts a.leading in
     let y = exponent_half c.args.n _ _ c.requires.1 b.parts b.leading in
     (search rules, (product_whole _ _ _ _ a.digits b.digits x y c.if-x-y-lt24.false).1, omega arith, omega arith)
@@ -17,8 +17,8 @@ rounded-pattern-requires-else-x-y-lt24 c =
 -- src/half.rt:103:1
 pub returns : goal.returns
 returns c =
-    let a = c.parts-of-a.ensures in
-    let b = c.parts-of-b.ensures in
+    let a = c.parts_of-a.ensures in
+    let b = c.parts_of-b.ensures in
     let x = exponent_half c.args.m _ _ c.requires.0 a.parts a.leading in
     let y = exponent_half c.args.n _ _ c.requires.1 b.parts b.leading in
     let r : c.if-x-y-lt24.pattern ≡ round 11 15 (steps 11 c.args.m * steps 11 c.args.n) (2 ^ 24) =

@@ -7,13 +7,13 @@ use Rattle.units.proofs.Halves.{quotient_zero, quotient_some, quotient_endless}
 pub returns-then-n-eq0 : goal.returns-then-n-eq0
 returns-then-n-eq0 c =
     let i = c.in-Finite-Finite in
-    rw (i.is-0, i.is-1) (c.endless-unless.ensures ∙ quotient_zero i.s i.t i.m i.n c.if-n-eq0.true)
+    rw (i.is-0, i.is-1) (c.endless_unless.ensures ∙ quotient_zero i.s i.t i.m i.n c.if-n-eq0.true)
 
 -- src/half.rt:165:1
 pub returns-else-n-eq0 : goal.returns-else-n-eq0
 returns-else-n-eq0 c =
     let i = c.in-Finite-Finite in
-    rw (i.is-0, i.is-1) (c.finite-quotient.ensures ∙ quotient_some i.s i.t i.m i.n c.if-n-eq0.false)
+    rw (i.is-0, i.is-1) (c.finite_quotient.ensures ∙ quotient_some i.s i.t i.m i.n c.if-n-eq0.false)
 
 -- src/half.rt:165:1
 pub returns-in-Finite-Infinite : goal.returns-in-Finite-Infinite

@@ -10,16 +10,16 @@ pub closest-kept-requires : goal.closest-kept-requires
 closest-kept-requires c = omega (arith, size_of c.args.n c.requires.2)
 
 -- src/pattern.rt:89:5
-pub overflow-mul-result : goal.overflow-mul-result
-overflow-mul-result c = omega (arith, product_bound _ _ _ _ _ _ c.requires.0 c.requires.1 c.requires.2 c.requires.4 (cut c))
+pub overflow_mul-result : goal.overflow_mul-result
+overflow_mul-result c = omega (arith, product_bound _ _ _ _ _ _ c.requires.0 c.requires.1 c.requires.2 c.requires.4 (cut c))
 
 -- src/pattern.rt:89:29
-pub overflow-cast-result : goal.overflow-cast-result
-overflow-cast-result c = omega (arith, kept_bound _ _ _ _ _ _ c.requires.0 c.requires.1 c.requires.2 (cut c))
+pub overflow_cast-result : goal.overflow_cast-result
+overflow_cast-result c = omega (arith, kept_bound _ _ _ _ _ _ c.requires.0 c.requires.1 c.requires.2 (cut c))
 
 -- src/pattern.rt:89:5
-pub overflow-add-result : goal.overflow-add-result
-overflow-add-result c =
+pub overflow_add-result : goal.overflow_add-result
+overflow_add-result c =
     omega (arith, product_bound _ _ _ _ _ _ c.requires.0 c.requires.1 c.requires.2 c.requires.4 (cut c), kept_bound _ _ _ _ _ _ c.requires.0 c.requires.1 c.requires.2 (cut c))
 
 -- src/pattern.rt:82:1

@@ -4,7 +4,7 @@ use Rattle.std.proofs.Common.{◌^◌, ◌<◌, arith}
 use Rattle.ieee.proofs.Roots.{lt_of_squares}
 
 -- src/pattern.rt:286:5
-pub overflow-cast-result : goal.overflow-cast-result
-overflow-cast-result c =
-    let r : c.whole-root-root.result < 2 ^ 24 = lt_of_squares c.whole-root-root.result (2 ^ 24) (omega arith) in
+pub overflow_cast-result : goal.overflow_cast-result
+overflow_cast-result c =
+    let r : c.whole_root-root.result < 2 ^ 24 = lt_of_squares c.whole_root-root.result (2 ^ 24) (omega arith) in
     elim c.if-root-n.branch [ then-root-n w ↦ omega arith | else-root-n w ↦ omega arith ]

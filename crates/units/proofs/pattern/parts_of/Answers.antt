@@ -17,7 +17,7 @@ returns-then-m-h c = record {
 pub returns-else-m-h : goal.returns-else-m-h
 returns-else-m-h c =
     let h = c.hidden-h.ensures in
-    let l = c.low-bits.ensures in
+    let l = c.low_bits.ensures in
     let n = normal_parts c.args.m (hidden c.args.p) (hidden_pos c.args.p) (omega arith) in
     record {
       value = rw (h, l) (normal_steps c.args.p c.args.m c.requires.0 (omega arith));

@@ -11,8 +11,8 @@ parts c =
     scaled c.args.p c.args.digits c.args.shift _ c.requires.0 c.requires.1 c.requires.2 c.requires.3 c.requires.4 (s.0, s.1)
 
 -- src/pattern.rt:269:30
-pub overflow-sub-result : goal.overflow-sub-result
-overflow-sub-result c = (parts c).within
+pub overflow_sub-result : goal.overflow_sub-result
+overflow_sub-result c = (parts c).within
 
 -- src/pattern.rt:260:1
 pub returns : goal.returns

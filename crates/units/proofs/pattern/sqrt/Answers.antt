@@ -10,9 +10,9 @@ returns-then-m-eq0 c =
 -- src/pattern.rt
 pub returns-then-s-2 : goal.returns-then-s-2
 returns-then-s-2 c =
-    rw c.in-Finite.is (c.requires.0.Quiet-is ∙ root_of_negative c.args.f.precision c.args.f.greatest _ _ (omega arith) (omega arith) c.if-s-2.true)
+    rw c.in-Finite.is (c.requires.0.quiet_is ∙ root_of_negative c.args.f.precision c.args.f.greatest _ _ (omega arith) (omega arith) c.if-s-2.true)
 
 -- src/pattern.rt
 pub returns-else-s-2 : goal.returns-else-s-2
 returns-else-s-2 c =
-    rw c.in-Finite.is (c.root-pattern.ensures ∙ root_of_positive c.args.f.precision c.args.f.greatest _ _ (omega arith) (omega arith) c.if-s-2.false)
+    rw c.in-Finite.is (c.root_pattern.ensures ∙ root_of_positive c.args.f.precision c.args.f.greatest _ _ (omega arith) (omega arith) c.if-s-2.false)

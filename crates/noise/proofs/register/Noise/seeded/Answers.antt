@@ -13,7 +13,7 @@ loop-lane-preserved c =
       simp length-set inv.0,
       below_more _ _
           (λ k h. let ne : k ≢ c.loop-lane.lane = omega arith in rw get_or-set_other (inv.1 k h))
-          (rw get_or-set_same c.nine_bits_lem.ensures),
+          (rw get_or-set_same c.nine_bits.ensures),
     )
 
 pub returns : goal.returns

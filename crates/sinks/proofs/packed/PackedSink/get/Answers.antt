@@ -10,4 +10,4 @@ returns c =
     let p = c.args.place in
     let bytes = c.args.self.now.bytes.now in
     let n : 24 * p + 24 - 24 * p ≡ 24 = omega arith in
-    got 24 p c.args.lane _ packed_block bytes (omega arith) (omega arith) (c.lane-of.ensures ∙ (ap (λ m. packed_lane (take m (drop (24 * p) bytes)) c.args.lane) n ∙ sym (lane_at _ c.args.lane (omega arith))))
+    got 24 p c.args.lane _ packed_block bytes (omega arith) (omega arith) (c.lane_of.ensures ∙ (ap (λ m. packed_lane (take m (drop (24 * p) bytes)) c.args.lane) n ∙ sym (lane_at _ c.args.lane (omega arith))))

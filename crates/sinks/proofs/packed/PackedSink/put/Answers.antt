@@ -10,8 +10,8 @@ pub returns : goal.returns
 returns c =
     let h : c.args.place < count_in 24 c.args.self.now.bytes.now = omega arith in
     record {
-      outcome = put_done 24 c.args.place _ c.args.self.now.bytes.now _ packed_block c.args.colours.now h (packed_length _) (packed_back _ c.told-colours) c.put-block.ensures;
-      whole = c.put-block.ensures ∙ cond_below _ _ _ _ h;
+      outcome = put_done 24 c.args.place _ c.args.self.now.bytes.now _ packed_block c.args.colours.now h (packed_length _) (packed_back _ c.told-colours) c.put_block.ensures;
+      whole = c.put_block.ensures ∙ cond_below _ _ _ _ h;
       lent = refl;
       lender = refl;
     }

@@ -12,8 +12,8 @@ pub returns : goal.returns
 returns c =
     let h : c.args.place < count_in 16 c.args.self.now.memory.now = omega arith in
     record {
-      outcome = put_done 16 c.args.place _ c.args.self.now.memory.now _ plain_block c.args.colours.now h (length-map _ colour_of ∙ c.told-colours) (plain_twice _) c.put-block.ensures;
-      whole = c.put-block.ensures ∙ cond_below _ _ _ _ h;
+      outcome = put_done 16 c.args.place _ c.args.self.now.memory.now _ plain_block c.args.colours.now h (length-map _ colour_of ∙ c.told-colours) (plain_twice _) c.put_block.ensures;
+      whole = c.put_block.ensures ∙ cond_below _ _ _ _ h;
       lent = refl;
       lender = refl;
     }

@@ -8,7 +8,7 @@ use Rattle.units.proofs.Rights.{singles}
 -- src/single.rt
 pub returns : goal.returns
 returns c =
-    let e : c.f32-to-bits-with-nan.result ≡ add 24 127 c.args.a c.args.b =
-    c.f32-to-bits-with-nan.ensures
-    ∙ rw (c.f32-from-bits-with-nan.ensures, c.f32-from-bits-with-nan-2.ensures) (adds binary32 c.args.a c.args.b (omega arith) (omega arith)) in
+    let e : c.f32_to_bits_with_nan.result ≡ add 24 127 c.args.a c.args.b =
+    c.f32_to_bits_with_nan.ensures
+    ∙ rw (c.f32_from_bits_with_nan.ensures, c.f32_from_bits_with_nan-2.ensures) (adds binary32 c.args.a c.args.b (omega arith) (omega arith)) in
     record { rule = e; right = rw e (singles.sums c.args.a c.args.b) }
