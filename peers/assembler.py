@@ -4,7 +4,7 @@
 It shares nothing with the proved one. As a program it holds the proved
 `assemble` to it on random texts, good and bad:
 
-    python3 peers/assembler.py target/bin/assemble 20000
+    python3 peers/assembler.py crates/assemble/out/assemble 20000
 """
 import random
 import re

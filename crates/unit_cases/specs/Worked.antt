@@ -1,7 +1,7 @@
 -- Worked words of the two units.
-use Rattle.std.specs.Prelude.{◌≡◌, ℕ, ◌*◌, ◌^◌, true, pos, negsuc}
+use Rattle.std.specs.Prelude.{◌≡◌, ◌*◌, ◌^◌, true, pos, negsuc}
 use Rattle.ieee.specs.Laws.{twice_midpoint}
-use Rattle.units.specs.Rules.{Rules, half, single, standard}
+use Rattle.units.specs.Rules.{half, single}
 use Rattle.ieee.specs.Operations.{number}
 
 pub record HalfWords : Type 0 where

@@ -1,12 +1,12 @@
 use Rattle.unit_cases.proofs.worked_words.Goals as goal
 use Rattle.std.proofs.Common.{refl}
-use Rattle.std.specs.Float.{twice-sqrt-sticky, isqrt-below}
+use lib.Ieee.{root_twice, root_below}
 use Rattle.ieee.specs.Formats.{steps, decode}
 use Rattle.ieee.specs.Rounding.{near, round, round_root}
 use Rattle.unit_cases.specs.Worked.{HalfWords, SingleWords}
 
 halves : HalfWords
-unfolding steps decode near round round_root twice-sqrt-sticky isqrt-below
+unfolding steps decode near round round_root root_twice root_below
 halves = record {
   tie_to_even_below = refl;
   tie_to_even_above = refl;
@@ -25,7 +25,7 @@ halves = record {
 }
 
 singles : SingleWords
-unfolding steps decode near round round_root twice-sqrt-sticky isqrt-below
+unfolding steps decode near round round_root root_twice root_below
 singles = record {
   tie_to_even_below = refl;
   tie_to_even_above = refl;
