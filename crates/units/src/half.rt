@@ -1,6 +1,5 @@
 // The half unit: IEEE binary16 in the low 16 bits of a word, by integers.
-ghost use Rattle.std.specs.Prelude.{◌≡◌, ℕ, ◌+◌, ◌-◌, ◌*◌, ◌/◌, ◌%◌, ◌^◌, ◌<◌, ◌≤◌, if◌then◌else◌};
-ghost use Rattle.std.specs.Float.Ieee.Nearest as Nearest;
+ghost use Rattle.std.specs.Prelude.{◌≡◌, ◌+◌, ◌*◌, ◌/◌, ◌%◌, ◌^◌, ◌<◌, if◌then◌else◌};
 ghost use Rattle.ieee.specs.Formats as Formats;
 ghost use Rattle.ieee.specs.Rounding as Rounding;
 ghost use Rattle.ieee.specs.Operations as Operations;

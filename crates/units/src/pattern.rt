@@ -1,7 +1,6 @@
 // Magnitudes of a binary format by their patterns: taken apart, rounded, cut to whole numbers. One text for every format that
 // a `Format` describes.
-ghost use Rattle.std.specs.Prelude.{◌≡◌, ℕ, ◌+◌, ◌-◌, ◌*◌, ◌/◌, ◌%◌, ◌^◌, ◌<◌, ◌≤◌, min, cond, ◌⊎◌};
-ghost use Rattle.std.specs.Float.Ieee.{size as digitsOf};
+ghost use Rattle.std.specs.Prelude.{◌≡◌, ◌+◌, ◌-◌, ◌*◌, ◌%◌, ◌^◌, ◌<◌, ◌≤◌, min, ◌⊎◌};
 ghost use Rattle.std.specs.Float.Ieee.Nearest as Nearest;
 ghost use Rattle.ieee.specs.Formats as Formats;
 ghost use Rattle.ieee.specs.Rounding as Rounding;

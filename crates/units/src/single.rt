@@ -1,5 +1,5 @@
 // The single unit: IEEE binary32. Sums, products and quotients are the language's f32; number, floor and sqrt are integers.
-ghost use Rattle.std.specs.Prelude.{◌≡◌, ℕ, ◌^◌, ◌<◌};
+ghost use Rattle.std.specs.Prelude.{◌≡◌};
 ghost use Rattle.ieee.specs.Formats as Formats;
 ghost use Rattle.ieee.specs.Operations as Operations;
 ghost use Rattle.ieee.specs.Laws.{Right, Floored, Levelled};
