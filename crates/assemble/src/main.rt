@@ -3,22 +3,22 @@
 
 mod report;
 
-use anyhow::anyhow;
 use report::{Report, report_on};
 use std::io::{Read, Write};
+use std::process::ExitCode;
 
-fn main(rt: HostRuntime) -> anyhow::Result<()> {
+fn main(rt: HostRuntime) -> anyhow::Result<ExitCode> {
     let heap = rt.alloc();
     let mut text = Vec::new(heap);
     rt.stdin().read_to_end(&mut text)?;
     match report_on(heap, text.as_slice())? {
         Report::Words(lines) => {
             rt.stdout().write_all(lines.as_slice())?;
-            Ok(())
+            Ok(ExitCode::SUCCESS)
         }
         Report::Refused(line) => {
             rt.stdout().write_all(line.as_bytes())?;
-            Err(anyhow!("the text is refused"))
+            Ok(ExitCode::FAILURE)
         }
     }
 }

@@ -100,7 +100,7 @@ pub(crate) fn gives(text: &[u8], expected: &[u32]) -> Result<(), Wrong>
     let mut words = [OLD; 20];
     let mut labels = [BLANK; 20];
     let (count, _) = answer(text, &mut words, &mut labels)?;
-    check(count == expected.len(), "as many")?;
+    check(count == expected.len(), "as many words")?;
     hold(&words, expected)
 }
 
@@ -111,7 +111,7 @@ pub(crate) fn enters(text: &[u8], expected: &[(usize, usize, usize)]) -> Result<
     let mut words = [OLD; 20];
     let mut labels = [BLANK; 20];
     let (_, count) = answer(text, &mut words, &mut labels)?;
-    check(count == expected.len(), "as many")?;
+    check(count == expected.len(), "as many labels")?;
     hold_labels(&labels, expected)
 }
 
