@@ -34,9 +34,10 @@ impl From<AllocError> for Wrong {
     }
 }
 
-// Passes where the condition holds.
+// Passes just where the condition holds.
 pub(crate) fn check(condition: bool, said: &'static str) -> Result<(), Wrong>
-    ensures { OnOk result (IsTrue condition) }
+    ensures only { OnOk result (IsTrue condition) }
+    ensures always { IsTrue condition → IsOk result }
 {
     if condition {
         Ok(())
