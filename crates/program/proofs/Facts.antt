@@ -1,6 +1,7 @@
 -- Facts about programs: the instruction at an address, the loops, and what the rules say of ends and branches.
 use Rattle.std.proofs.Common.{◌≡◌, ℕ, suc, ◌<◌, ◌≤◌, ◌⊎◌, List, length, get_or, Some, None, Option, refl, inl, inr, arith}
 use Rattle.std.proofs.lemmas.Bool.{cases_lt, cases_order}
+use Rattle.std.proofs.lemmas.Bool.Decides.{nat_tests}
 use Rattle.program.specs.declared.word.Instruction.{Instruction}
 use Rattle.program.specs.declared.word.Instruction.TheVariants.{Two, One, Cmov, Done, Bltz, Setx, Loop}
 use Rattle.program.specs.Rules.{At, Feeds, Looped, Accepted}
@@ -42,6 +43,11 @@ done? Done = inl refl
 done? (Bltz a t) = inr (λ e. grind arith)
 done? (Setx n) = inr (λ e. grind arith)
 done? (Loop t) = inr (λ e. grind arith)
+
+-- a count has 16 bits
+pub count_most : (w n : ℕ) → decoded w ≡ Some (Setx n) → n ≤ 65535
+unfolding decoded
+count_most w n e = grind (arith, nat_tests)
 
 -- ---- loops
 

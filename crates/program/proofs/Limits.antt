@@ -6,19 +6,19 @@ use Rattle.std.proofs.ByRecursion.{All-from_get_or, All-set, sum_by_le}
 use Rattle.std.proofs.lemmas.List.{ext_get_or, length-set, get_or-set_other}
 use Rattle.std.proofs.lemmas.List.Sums.{sum_by-cons, sum_by-set}
 use Rattle.std.proofs.lemmas.Bool.{cases_lt, cases_eq, cases_order, cond-true, cond-false, le-leb, lt-leb}
-use Rattle.std.proofs.lemmas.Bool.Decides.{nat_tests}
 use Rattle.program.specs.declared.limit.Body.{Body}
-use Rattle.program.specs.declared.word.Instruction.TheVariants.{Setx, Loop}
+use Rattle.program.specs.declared.word.Instruction.TheVariants.{Loop}
+use Rattle.program.specs.declared.word.Instruction.TheVariants as ins
 use Rattle.program.specs.Bodies.{Next, weight_of}
+use Rattle.program.specs.Scans.{Feeder}
+use Rattle.std.specs.Prelude.{MatchOption}
+use Rattle.std.specs.Option.{IsSomeAnd}
+use Rattle.program.specs.declared.place.Setx.{Setx}
+use Rattle.program.proofs.Scans.{unfed_wrong, own_looped}
 use Rattle.program.specs.Limits.{InBody, Weight, Limit}
 use Rattle.program.specs.Rules.{At, Accepted}
-use Rattle.program.specs.Words.{decoded}
-use Rattle.program.proofs.Facts.{accepted_short, looped_one, setx_behind, not_last}
+use Rattle.program.proofs.Facts.{count_most, accepted_short, looped_one, setx_behind, not_last}
 use Rattle.program.proofs.Live.{live_body, body_one, dead_at_setx}
-
-count_most : (w n : ℕ) → decoded w ≡ Some (Setx n) → n ≤ 65535
-unfolding decoded
-count_most w n e = grind (arith, nat_tests)
 
 -- an address has one weight
 weight_one : {words : List ℕ} {a w v : ℕ} → Weight words a w → Weight words a v → w ≡ v
@@ -69,6 +69,13 @@ next_down words a (Some body) none next = record {
   lowest = λ k t low high p. elim (cases_eq k a) [ inl e ↦ none t (rw e at p) | inr e ↦ next.lowest k t (omega arith) high p ];
 }
 
+-- the next loop at a loop is that loop, with its setx
+module _ {words : List ℕ} {a t : ℕ} (ok : Accepted words) (loop : At words a (Loop t)) where
+  pub next_here : (made : Setx → Body → Type 0) → ((s : Setx) (b : Body) → made s b → (b.target ≡ t) × (b.count ≡ s.count)) → (setx : Option Setx) (body : Option Body) → Feeder words a setx → MatchOption setx (body ≡ None) (λ s. IsSomeAnd body (made s)) → Next words a body
+  next_here made same (Some s) (Some b) own e = let (target, count) = same s b e in record { setx = s.address; loop = a; looped = rw (target, count) (own_looped ok loop own); above = omega arith; lowest = λ k t low high. absurd (omega arith) }
+  next_here made same (Some s) None own e = absurd e
+  next_here made same None body none e = absurd (ok.loops_good a (unfed_wrong loop none))
+
 -- the weights from an address on are summed
 pub record Upto (words : List ℕ) (a limit : ℕ) (body : Option Body) : Type 0 where
   pub weights : List ℕ
@@ -112,7 +119,7 @@ module _ {words : List ℕ} {limit : ℕ} (ok : Accepted words) (p : Limit words
   all_weights m h = All-from_get_or (λ w. w ≤ m) p.weights 0 (λ i l. let k : i < length words = omega (arith, p.each) in h i _ (p.right i k))
 
   -- neither a setx nor the last word is in a body
-  setx_out : (s m : ℕ) → At words s (Setx m) → (n : ℕ) → InBody words s n → ⊥
+  setx_out : (s m : ℕ) → At words s (ins.Setx m) → (n : ℕ) → InBody words s n → ⊥
   setx_out s m setx n b = dead_at_setx setx (live_body b)
 
   last_out : (a : ℕ) → suc a ≡ length words → (n : ℕ) → InBody words a n → ⊥

@@ -1,15 +1,20 @@
 -- A program has one outcome.
+use Rattle.std.specs.Prelude.{is_ok}
+use Rattle.std.specs.Result.{result_err}
 use Rattle.std.proofs.Common.{◌≡◌, ℕ, ◌⊎◌, List, [], ◌∷◌, Ok, Err, Result, refl, inl, inr}
 use Rattle.std.proofs.lemmas.Bool.{cases_order}
 use Rattle.program.specs.declared.fault.Fault.{Fault}
 use Rattle.program.specs.declared.fault.Fault.TheVariants as fault
-use Rattle.program.specs.declared.rules.Rule.{Rule}
-use Rattle.program.specs.declared.rules.Rule.TheVariants.{Word, Ending, Target, SetxSkipped, Feeding, IntoLoop}
 use Rattle.program.specs.Limits.{Limit}
-use Rattle.program.specs.Outcome.{Kept, Lowest, Checked, OneOutcome}
+use Rattle.program.specs.Outcome.{Kept, Lowest, Found, Checked, OneOutcome}
 use Rattle.program.specs.Rules.{WrongLength}
-use Rattle.program.specs.Scans.{Breaks}
+use Rattle.program.specs.Scans.{Rule, Word, Ending, Target, SetxSkipped, Feeding, IntoLoop, Breaks}
 use Rattle.program.proofs.Limits.{limit_one}
+
+-- nothing breaks a rule that was found to be kept
+pub kept : {s : Result (Unit {0}) Fault} {x : Unit {0}} (P : ℕ → Type 0) (r : Result (Unit {0}) ℕ) → Found P (result_err r) → is_ok s ≡ is_ok r → s ≡ Ok x → Kept P
+kept P (Ok _) h same e = h
+kept P (Err a) h same e = absurd (cc)
 
 lowest_one : {P : ℕ → Type 0} {a b : ℕ} → Lowest P a → Lowest P b → a ≡ b
 lowest_one {P} {a} {b} p q =

@@ -1,12 +1,14 @@
 -- The setx of an address, one address on; every loop of an accepted program has one; and what breaks a rule stands in the program.
-use Rattle.std.proofs.Common.{◌≡◌, ℕ, zero, suc, ◌<◌, ◌≤◌, ◌⊎◌, List, length, refl, inl, inr, arith}
+use Rattle.std.proofs.Common.{◌≡◌, ℕ, zero, suc, ◌+◌, ◌-◌, ◌<◌, ◌≤◌, ◌⊎◌, ◌↔◌, Bool, true, false, List, length, get_or, take, drop, Some, IsTrue, refl, inl, inr, arith}
+use Rattle.std.specs.Bool.{MatchBool}
+use Rattle.std.specs.List.{AllWithin, HoldsAt}
 use Rattle.std.proofs.lemmas.Bool.{cases_lt, cases_eq}
-use Rattle.program.specs.declared.rules.Rule.{Rule}
-use Rattle.program.specs.declared.rules.Rule.TheVariants.{Word, Ending, Target, SetxSkipped, Feeding, IntoLoop}
+use Rattle.std.proofs.lemmas.List.{get_or-drop, get_or-take, length-drop, length-take}
 use Rattle.program.specs.declared.word.Instruction.{Instruction}
 use Rattle.program.specs.declared.word.Instruction.TheVariants.{Setx, Loop}
 use Rattle.program.specs.Rules.{At, Looped, WrongLoop, Accepted}
-use Rattle.program.specs.Scans.{Own, Breaks}
+use Rattle.program.specs.Words.{decoded}
+use Rattle.program.specs.Scans.{SetxIn, LoopOver, Own, Rule, Word, Ending, Target, SetxSkipped, Feeding, IntoLoop, Breaks}
 use Rattle.program.proofs.Facts.{at_one, not_both, Kind, plain, is_setx, is_loop, kind, feeds_one, placed}
 
 pub breaks_within : (rule : Rule) (words : List ℕ) (a : ℕ) → Breaks rule words a → a < length words
@@ -16,6 +18,64 @@ breaks_within Target words a b = b.branch.within
 breaks_within SetxSkipped words a b = b.branch.within
 breaks_within Feeding words a b = b.loop.within
 breaks_within IntoLoop words a b = b.branch.within
+
+-- what a scan looks for: a setx, and a loop that goes back below an address
+abbrev pub IsSetx : ℕ → Type 0
+IsSetx w = (n : ℕ) × (decoded w ≡ Some (Setx n))
+
+abbrev pub LoopsBelow : ℕ → ℕ → Type 0
+LoopsBelow low w = (t : ℕ) × (decoded w ≡ Some (Loop t)) × (t < low)
+
+-- the answer of `any` on the words from low on
+abbrev pub AnyFrom : (ℕ → Type 0) → List ℕ → ℕ → Bool → Type 0
+AnyFrom P words low r = MatchBool r ((k : ℕ) × (k < length (drop low words)) × HoldsAt P (drop low words) k) (AllWithin (λ w. P w → ⊥) (drop low words) 0 (length (drop low words)))
+
+-- says whether P holds somewhere from low on
+any_from : (P : ℕ → Type 0) (words : List ℕ) (low : ℕ) (r : Bool) → AnyFrom P words low r → IsTrue r ↔ ((a : ℕ) × (low ≤ a) × (a < length words) × P (get_or words a 0))
+any_from P words low true (k, h, p) = (λ _. (low + k, omega arith, omega (arith, length-drop low words), rw get_or-drop at (p 0)), λ _. refl)
+any_from P words low false none = (
+  λ e. absurd (cc),
+  λ (a, from, within, p).
+      let e : low + (a - low) ≡ a = omega arith in
+      absurd (none (a - low) 0 (omega arith) (omega (arith, length-drop low words)) (rw (get_or-drop, e) p)),
+)
+
+pub setx_in : (words : List ℕ) (low high : ℕ) (r : Bool) → AnyFrom IsSetx (take high words) low r → IsTrue r ↔ SetxIn words low high
+setx_in words low high r h =
+    let both = any_from IsSetx (take high words) low r h in
+    let e = length-take high words in (
+      λ t. let (a, from, within, p) = both.0 t in let below : a < high = omega arith in record { address = a; count = p.0; setx = record { within = omega arith; is = rw get_or-take at p.1 }; from = from; upto = below },
+      λ s. let below = s.upto in both.1 (s.address, s.from, omega (arith, s.setx.within), (s.count, rw get_or-take s.setx.is)),
+    )
+
+pub loop_over : (words : List ℕ) (low : ℕ) (r : Bool) → AnyFrom (LoopsBelow low) words low r → IsTrue r ↔ LoopOver words low (length words)
+loop_over words low r h =
+    let both = any_from (LoopsBelow low) words low r h in (
+      λ t. let (a, from, within, p) = both.0 t in record { address = a; start = p.0; loop = record { within = within; is = p.1 }; above = p.2; from = from; upto = within },
+      λ o. both.1 (o.address, o.from, o.upto, (o.start, o.loop.is, o.above)),
+    )
+
+-- a loop stands from one address up to another
+pub record LoopIn (words : List ℕ) (low high : ℕ) : Type 0 where
+  pub address : ℕ
+  pub start : ℕ
+  pub loop : At words address (Loop start)
+  pub from : low ≤ address
+  pub upto : address < high
+
+-- what stands at an address, where neither setx nor loop stands behind it up to another
+module _ {words : List ℕ} {a l : ℕ} (setx : SetxIn words (a + 1) l → ⊥) (loop : LoopIn words (a + 1) l → ⊥) where
+  pub own_seen : {n : ℕ} → a < l → At words a (Setx n) → Own words l a n
+  own_seen h p = record {
+    fed = record { setx = p; before = h; nearest = λ k m lo hi q. setx (record { address = k; count = m; setx = q; from = omega arith; upto = hi }) };
+    alone = λ k u lo hi q. loop (record { address = k; start = u; loop = q; from = omega arith; upto = hi });
+  }
+
+  pub own_none : {t : ℕ} → a < l → At words a (Loop t) → (s n : ℕ) → Own words l s n → ⊥
+  own_none {t} h p s n o = elim (cases_lt s a) [
+    | inl below ↦ o.alone a t below h p
+    | inr above ↦ elim (cases_eq s a) [ inl e ↦ not_both e o.fed.setx p | inr e ↦ setx (record { address = s; count = n; setx = o.fed.setx; from = omega arith; upto = o.fed.before }) ]
+  ]
 
 -- from an address to the next
 module _ {words : List ℕ} {a b : ℕ} (next : b ≡ suc a) where
@@ -43,10 +103,6 @@ module _ {words : List ℕ} {a b : ℕ} (next : b ≡ suc a) where
       };
       alone = λ k u lo hi. o.alone k u lo (omega arith);
     }
-
-    -- a scan down to b can go on to a
-    pub own_back : (end : ℕ) → ((s n : ℕ) → (Own words b s n → Own words end s n) × (Own words end s n → Own words b s n)) → (s n : ℕ) → (Own words a s n → Own words end s n) × (Own words end s n → Own words a s n)
-    own_back end same s n = (λ o. (same s n).0 (own_more s n o), λ o. own_less s n ((same s n).1 o))
 
 -- a loop with a setx of its own, and one without
 module _ {words : List ℕ} {t l : ℕ} (loop : At words l (Loop t)) where

@@ -108,7 +108,7 @@ module _ (w d : ℕ) (e : decoded w ≡ Some (Bltz 17 d)) where
   }
 
   abbrev body : Option Body
-  body = Some (record { target = 1; count = 3 })
+  body = Some (record { target = 1; count = 3; narrow = omega arith })
 
   next : (a : ℕ) → a ≤ 2 → Next four a body
   next a h = record { setx = 0; loop = 2; looped = looped; above = h; lowest = λ k t lo hi p. let s = at p in grind arith }

@@ -1,7 +1,6 @@
 -- What a look at one address, and a scan of several, answer.
 use Rattle.std.specs.Prelude.{ℕ, ◌<◌, ◌≤◌, List, Some, None, Option}
-use Rattle.program.specs.declared.rules.Rule.{Rule}
-use Rattle.program.specs.declared.rules.Rule.TheVariants.{Word, Ending, Target, SetxSkipped, Feeding, IntoLoop}
+use Rattle.program.specs.declared.place.Setx as setx
 use Rattle.program.specs.declared.word.Instruction.TheVariants.{Setx, Loop}
 use Rattle.program.specs.Rules.{At, Feeds, WrongWord, WrongEnding, WrongTarget, SkipsSetx, WrongLoop, EntersLoop}
 
@@ -28,9 +27,18 @@ pub record Own (words : List ℕ) (l s n : ℕ) : Type 0 where
   pub alone : (k u : ℕ) → s < k → k < l → At words k (Loop u) → ⊥
 
 -- the setx of an address, or none
-abbrev pub Feeder : List ℕ → ℕ → Option (ℕ × ℕ) → Type 0
+abbrev pub Feeder : List ℕ → ℕ → Option setx.Setx → Type 0
 Feeder words l None = (s n : ℕ) → Own words l s n → ⊥
-Feeder words l (Some p) = Own words l p.0 p.1
+Feeder words l (Some p) = Own words l p.address p.count
+
+-- the rules that an address can break
+pub data Rule : Type 0 where
+  Word : Rule
+  Ending : Rule
+  Target : Rule
+  SetxSkipped : Rule
+  Feeding : Rule
+  IntoLoop : Rule
 
 -- what breaks a rule at an address
 abbrev pub Breaks : Rule → List ℕ → ℕ → Type 0

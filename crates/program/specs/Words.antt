@@ -1,11 +1,12 @@
 -- Word formats: a code in bits 19 to 16 and the fields that go with it. Bits without a use have no part in it.
-use Rattle.std.specs.Prelude.{ℕ, ◌+◌, ◌*◌, ◌/◌, ◌%◌, cond, Some, None, Option, ◌==◌, nat_lt}
+use Rattle.std.specs.Prelude.{◌≡◌, ℕ, ◌+◌, ◌*◌, ◌/◌, ◌%◌, cond, Some, None, Option, Result, MatchResult, ◌==◌, nat_lt}
 use Rattle.program.specs.declared.word.Two.{Two}
 use Rattle.program.specs.declared.word.Two.TheVariants.{Add, Sub, Mul, Div}
 use Rattle.program.specs.declared.word.One.{One}
 use Rattle.program.specs.declared.word.One.TheVariants.{Floor, Abs, Sqrt}
 use Rattle.program.specs.declared.word.Instruction.{Instruction}
 use Rattle.program.specs.declared.word.Instruction.TheVariants as ins
+use Rattle.program.specs.declared.word.UnknownWord.{UnknownWord}
 
 abbrev pub code_of : ℕ → ℕ
 code_of w = w / 65536
@@ -42,3 +43,7 @@ decoded w =
     (cond (code_of w == 13) (Some (ins.Bltz (field_a w) (branch_target w)))
     (cond (code_of w == 14) (Some (ins.Setx (w % 65536)))
     (cond (code_of w == 15) (Some (ins.Loop (loop_target w))) None))))))
+
+-- the instruction of the word, or an error where it has none
+abbrev pub Decodes : ℕ → Result Instruction UnknownWord → Type 0
+Decodes word r = MatchResult r (λ i. decoded word ≡ Some i) (λ _. decoded word ≡ None)

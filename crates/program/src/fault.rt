@@ -5,7 +5,7 @@ ghost use Rattle.program.specs.Faults.{refusal_of};
 use listing::{Layer, Refusal};
 
 // A refusal of a program, with the lowest address that breaks the rule.
-#[derive(Clone, Copy, PartialEq, Debug)]
+#[derive(Clone, Copy, PartialEq, Eq, Debug)]
 pub enum Fault {
     // no word, or more than 2,048
     Length,
@@ -23,12 +23,12 @@ pub enum Fault {
     IntoLoop(u32),
 }
 
-impl Fault {
-    // The fault as its number, its layer and its place.
-    pub fn refusal(&self) -> Refusal
-        ensures { result ≡ refusal_of self.now }
-    {
-        let (number, place) = match *self {
+// A fault as its number, its layer and its place.
+impl From<Fault> for Refusal {
+    ghost from_gives = { λ fault refusal. refusal ≡ refusal_of fault };
+
+    fn from(fault: Fault) -> Refusal {
+        let (number, place) = match fault {
             Fault::Length => (1, 0),
             Fault::Word(address) => (2, address),
             Fault::Ending(address) => (3, address),

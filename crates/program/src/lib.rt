@@ -5,13 +5,14 @@ ghost use Rattle.program.specs.Cases.{WorkedPrograms};
 
 mod fault;
 mod limit;
+mod place;
 mod rules;
 mod scan;
 mod word;
 
 pub use fault::Fault;
 pub use rules::check;
-pub use word::{Instruction, One, Two, decode};
+pub use word::{Instruction, One, Two, UnknownWord};
 
 // Three programs that were worked by hand, from the rules.
 pub fn worked_programs()

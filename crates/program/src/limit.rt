@@ -1,41 +1,43 @@
 // The slot limit of a program.
-ghost use Rattle.std.specs.Prelude.{◌≡◌, ◌+◌, ◌<◌, ◌≤◌, length};
-ghost use Rattle.program.specs.Bodies.{Next, weight_of};
+ghost use Rattle.std.specs.Prelude.{◌+◌, ◌≡◌, ◌≤◌};
 ghost use Rattle.program.specs.Limits.{Limit};
 ghost use Rattle.program.specs.Rules.{Accepted};
 
-use crate::scan::feeder;
-use crate::word::{Instruction, decode};
+use crate::place::Place;
+use crate::word::Instruction;
 
 // Where the body of a loop begins, and the count that feeds it.
 #[derive(Clone, Copy)]
 struct Body {
     target: usize,
     count: u32,
+    ghost narrow: { count ≤ 65535 },
 }
 
-// The body of the next loop at or above an address, where that above the address is known.
-fn body_from(words: &[u32], a: usize, above: Option<Body>) -> Option<Body>
-    requires { (Accepted words.now) × ((a < length words.now) × (Next words.now (a + 1) above)) }
-    ensures { Next words.now a result }
-{
-    match decode(words[a]) {
-        Some(Instruction::Loop(target)) => match feeder(words, a) {
-            Some((_, count)) => Some(Body { target, count }),
-            None => None,
-        },
-        _ => above,
+impl Body {
+    ghost use Rattle.program.specs.Bodies.{Next, weight_of};
+
+    // The body of the next loop at or above a place, where that above the place is known.
+    fn next(place: Place, above: Option<Body>) -> Option<Body>
+        requires accepted { Accepted place.words.now }
+        requires known { Next place.words.now (place.address + 1) above }
+        ensures { Next place.entry.words.now place.entry.address result }
+    {
+        match place.instruction() {
+            Some(Instruction::Loop(target)) => place.feeder().map(|setx| Body {
+                target,
+                count: setx.count,
+            }),
+            _ => above,
+        }
     }
-}
 
-// How often an address counts, below the next loop.
-fn weight(body: Option<Body>, a: usize) -> u32
-    requires { weight_of body a ≤ 65536 }
-    ensures { result ≡ weight_of body a }
-{
-    match body {
-        Some(Body { target, count }) if target <= a => count + 1,
-        _ => 1,
+    // How often an address counts, below the next loop.
+    fn weight(body: Option<Body>, address: usize) -> u32
+        ensures { result ≡ weight_of body address }
+    {
+        body.filter(|body| body.target <= address)
+            .map_or(1, |body| body.count + 1)
     }
 }
 
@@ -47,9 +49,9 @@ pub(crate) fn slot_limit(words: &[u32]) -> u32
 {
     let mut limit = 0;
     let mut body = None;
-    for a in (0..words.len()).rev() {
-        body = body_from(words, a, body);
-        limit += weight(body, a);
+    for address in (0..words.len()).rev() {
+        body = Body::next(Place { words, address }, body);
+        limit += Body::weight(body, address);
     }
     limit
 }

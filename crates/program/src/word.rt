@@ -1,6 +1,6 @@
 // A program word taken apart.
 ghost use Rattle.std.specs.Prelude.{◌≡◌, ◌<◌, ◌≤◌};
-ghost use Rattle.program.specs.Words.{two_of, one_of, decoded};
+ghost use Rattle.program.specs.Words.{two_of, one_of, Decodes};
 
 // The functions of two registers.
 #[derive(Clone, Copy, PartialEq, Debug)]
@@ -63,22 +63,31 @@ fn one_of(code: u32) -> One
     }
 }
 
-// The instruction of a word, or none where the word is too wide or its code is not in use.
-pub fn decode(word: u32) -> Option<Instruction>
-    ensures { result ≡ decoded word }
-{
-    let d = word / 4096 % 16;
-    let a = word / 128 % 32;
-    let b = word / 4 % 32;
-    match word / 65536 {
-        code if code > 15 => None,
-        code @ 0..=3 => Some(Instruction::Two(two_of(code), d, a, b)),
-        code @ 4..=6 => Some(Instruction::One(one_of(code), d, a)),
-        8 => Some(Instruction::Cmov(d, a, b)),
-        10 => Some(Instruction::Done),
-        13 => Some(Instruction::Bltz(a, (d * 128 + word % 128) as usize)),
-        14 => Some(Instruction::Setx(word % 65536)),
-        15 => Some(Instruction::Loop((word % 2048) as usize)),
-        _ => None,
+// That a word is too wide, or its code is not in use.
+#[derive(Clone, Copy, PartialEq, Eq, Debug)]
+pub struct UnknownWord;
+
+// The instruction of a word.
+#[tactic(auto, using(std::proofs::lemmas::Bool::Decides::nat_tests), unfolding(crate::specs::Words::decoded))]
+impl TryFrom<u32> for Instruction {
+    type Error = UnknownWord;
+
+    ghost try_from_gives = { Decodes };
+
+    fn try_from(word: u32) -> Result<Self, UnknownWord> {
+        let d = word / 4096 % 16;
+        let a = word / 128 % 32;
+        let b = word / 4 % 32;
+        match word / 65536 {
+            code if code > 15 => Err(UnknownWord),
+            code @ 0..=3 => Ok(Instruction::Two(two_of(code), d, a, b)),
+            code @ 4..=6 => Ok(Instruction::One(one_of(code), d, a)),
+            8 => Ok(Instruction::Cmov(d, a, b)),
+            10 => Ok(Instruction::Done),
+            13 => Ok(Instruction::Bltz(a, (d * 128 + word % 128) as usize)),
+            14 => Ok(Instruction::Setx(word % 65536)),
+            15 => Ok(Instruction::Loop((word % 2048) as usize)),
+            _ => Err(UnknownWord),
+        }
     }
 }

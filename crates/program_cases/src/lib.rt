@@ -19,8 +19,5 @@ mod refusals;
 pub(crate) fn answer(words: &[u32]) -> Result<u32, Refusal>
     ensures { Answered words.now result }
 {
-    match check(words) {
-        Ok(limit) => Ok(limit),
-        Err(fault) => Err(fault.refusal()),
-    }
+    Ok(check(words)?)
 }

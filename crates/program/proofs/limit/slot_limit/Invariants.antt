@@ -1,5 +1,5 @@
 use Rattle.program.proofs.Limits.{Upto}
 use Rattle.program.proofs.limit.slot_limit.Given as goal
 
-abbrev pub invariant-loop-a : goal.invariant-loop-a
-invariant-loop-a l = Upto l.words l.a l.limit l.body
+abbrev pub invariant-loop-address : goal.invariant-loop-address
+invariant-loop-address l = Upto l.words l.address l.limit l.body
