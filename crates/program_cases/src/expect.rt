@@ -1,6 +1,6 @@
 // Words of programs, and checks of what a program gives.
 use crate::answer;
-use listing::{Layer, Refusal};
+use listing::Refusal;
 use std::process::Abort;
 
 pub(crate) const NOP: u32 = 0x0_0000;
@@ -19,12 +19,20 @@ pub(crate) fn takes(rt: &impl Abort, words: &[u32], limit: u32) {
     assert_eq!(rt; answer(words), Ok(limit));
 }
 
-// Passes where the program breaks this rule, at this address.
-pub(crate) fn breaks(rt: &impl Abort, words: &[u32], number: u32, place: u32) {
-    let refusal = Refusal {
-        number,
-        layer: Layer::Program,
-        place,
+// The refusal for a rule, by its number, that is broken at an address.
+macro_rules! broken {
+    ($number:expr, $place:expr) => {
+        listing::Refusal {
+            number: $number,
+            layer: listing::Layer::Program,
+            place: $place,
+        }
     };
+}
+
+pub(crate) use broken;
+
+// Passes where the program gets this refusal.
+pub(crate) fn breaks(rt: &impl Abort, words: &[u32], refusal: Refusal) {
     assert_eq!(rt; answer(words), Err(refusal));
 }
