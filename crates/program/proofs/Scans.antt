@@ -1,4 +1,4 @@
--- The setx of an address, one address on; every loop of an accepted program has one; and what breaks a rule stands in the program.
+-- What a scan with `any` answers; the setx of an address, one address on; every loop of an accepted program has one; and what breaks a rule stands in the program.
 use Rattle.std.proofs.Common.{◌≡◌, ℕ, zero, suc, ◌+◌, ◌-◌, ◌<◌, ◌≤◌, ◌⊎◌, ◌↔◌, Bool, true, false, List, length, get_or, take, drop, Some, IsTrue, refl, inl, inr, arith}
 use Rattle.std.specs.Bool.{MatchBool}
 use Rattle.std.specs.List.{AllWithin, HoldsAt}
@@ -63,38 +63,24 @@ pub record LoopIn (words : List ℕ) (low high : ℕ) : Type 0 where
   pub from : low ≤ address
   pub upto : address < high
 
--- what stands at an address, where neither setx nor loop stands behind it up to another
-module _ {words : List ℕ} {a l : ℕ} (setx : SetxIn words (a + 1) l → ⊥) (loop : LoopIn words (a + 1) l → ⊥) where
-  pub own_seen : {n : ℕ} → a < l → At words a (Setx n) → Own words l a n
-  own_seen h p = record {
-    fed = record { setx = p; before = h; nearest = λ k m lo hi q. setx (record { address = k; count = m; setx = q; from = omega arith; upto = hi }) };
-    alone = λ k u lo hi q. loop (record { address = k; start = u; loop = q; from = omega arith; upto = hi });
-  }
-
-  pub own_none : {t : ℕ} → a < l → At words a (Loop t) → (s n : ℕ) → Own words l s n → ⊥
-  own_none {t} h p s n o = elim (cases_lt s a) [
-    | inl below ↦ o.alone a t below h p
-    | inr above ↦ elim (cases_eq s a) [ inl e ↦ not_both e o.fed.setx p | inr e ↦ setx (record { address = s; count = n; setx = o.fed.setx; from = omega arith; upto = o.fed.before }) ]
-  ]
-
 -- from an address to the next
-module _ {words : List ℕ} {a b : ℕ} (next : b ≡ suc a) where
-  pub own_here : (n : ℕ) → At words a (Setx n) → Own words b a n
+module _ {words : List ℕ} {a : ℕ} where
+  own_here : (n : ℕ) → At words a (Setx n) → Own words (suc a) a n
   own_here n p = record { fed = record { setx = p; before = omega arith; nearest = λ k m lo hi. omega arith }; alone = λ k u lo hi. omega arith }
 
-  pub own_not : (t : ℕ) → At words a (Loop t) → (s n : ℕ) → Own words b s n → ⊥
+  own_not : (t : ℕ) → At words a (Loop t) → (s n : ℕ) → Own words (suc a) s n → ⊥
   own_not t p s n o =
       let before = o.fed.before in
       elim (cases_lt s a) [ inl h ↦ o.alone a t h (omega arith) p | inr h ↦ not_both (omega arith) o.fed.setx p ]
 
   module _ (no_setx : (n : ℕ) → At words a (Setx n) → ⊥) (no_loop : (t : ℕ) → At words a (Loop t) → ⊥) where
-    own_more : (s n : ℕ) → Own words a s n → Own words b s n
+    own_more : (s n : ℕ) → Own words a s n → Own words (suc a) s n
     own_more s n o = record {
       fed = record { setx = o.fed.setx; before = omega (arith, o.fed.before); nearest = λ k m lo hi p. elim (cases_eq k a) [ inl e ↦ no_setx m (rw e at p) | inr e ↦ o.fed.nearest k m lo (omega arith) p ] };
       alone = λ k u lo hi p. elim (cases_eq k a) [ inl e ↦ no_loop u (rw e at p) | inr e ↦ o.alone k u lo (omega arith) p ];
     }
 
-    own_less : (s n : ℕ) → Own words b s n → Own words a s n
+    own_less : (s n : ℕ) → Own words (suc a) s n → Own words a s n
     own_less s n o = record {
       fed = record {
         setx = o.fed.setx;
@@ -110,23 +96,20 @@ module _ {words : List ℕ} {t l : ℕ} (loop : At words l (Loop t)) where
   unfed_wrong none = record { target = t; loop = loop; unfed = λ s n p. none s n (record { fed = p.fed; alone = p.alone }) }
 
   module _ {s n : ℕ} (own : Own words l s n) where
-    pub fed_wrong : (t ≤ s) ⊎ (l < t) → WrongLoop words l
+    fed_wrong : (t ≤ s) ⊎ (l < t) → WrongLoop words l
     fed_wrong h = record { target = t; loop = loop; unfed = λ r m p. let e = (feeds_one own.fed p.fed).0 in let low = p.inside in let high = p.backward in elim h [ inl h ↦ omega arith | inr h ↦ omega arith ] }
 
     fed_right : s < t → t ≤ l → Looped words s n t l
     fed_right inside back = record { loop = loop; backward = back; fed = own.fed; inside = inside; alone = own.alone }
 
-    pub fed_kept : s < t → t ≤ l → WrongLoop words l → ⊥
-    fed_kept inside back w = let e = at_one refl loop w.loop in let h : t ≡ w.target = cc in w.unfed s n (rw h at (fed_right inside back))
-
 abbrev Owns : List ℕ → ℕ → Type 0
 Owns words l = ((s : ℕ) × (n : ℕ) × Own words l s n) ⊎ ((s n : ℕ) → Own words l s n → ⊥)
 
 owns_more : {words : List ℕ} {a : ℕ} {i : Instruction} → Kind i → At words a i → Owns words a → Owns words (suc a)
-owns_more {a} (is_setx n) p o = inl (a, n, own_here refl n p)
-owns_more (is_loop t) p o = inr (own_not refl t p)
-owns_more (plain g) p (inl (s, n, o)) = inl (s, n, own_more refl (λ n q. g.no_setx n (at_one refl p q)) (λ t q. g.no_loop t (at_one refl p q)) s n o)
-owns_more (plain g) p (inr none) = inr (λ s n o. none s n (own_less refl (λ n q. g.no_setx n (at_one refl p q)) (λ t q. g.no_loop t (at_one refl p q)) s n o))
+owns_more {a} (is_setx n) p o = inl (a, n, own_here n p)
+owns_more (is_loop t) p o = inr (own_not t p)
+owns_more (plain g) p (inl (s, n, o)) = inl (s, n, own_more (λ n q. g.no_setx n (at_one refl p q)) (λ t q. g.no_loop t (at_one refl p q)) s n o)
+owns_more (plain g) p (inr none) = inr (λ s n o. none s n (own_less (λ n q. g.no_setx n (at_one refl p q)) (λ t q. g.no_loop t (at_one refl p q)) s n o))
 
 module _ {words : List ℕ} (ok : Accepted words) where
   -- an address has a setx of its own, or none
