@@ -33,6 +33,10 @@ abbrev pub place_word : Layer → List ℕ
 place_word Text = codes "line"
 place_word Program = codes "address"
 
--- the number and the place in decimal, and the newline
+-- the number and the place in decimal
+abbrev pub refusal_text : Refusal → List ℕ
+refusal_text r = codes "refused " ++ (decimal r.number ++ (codes " at " ++ (place_word r.layer ++ (codes " " ++ decimal r.place))))
+
+-- that, and the newline
 abbrev pub refusal_line : Refusal → List ℕ
-refusal_line r = codes "refused " ++ (decimal r.number ++ (codes " at " ++ (place_word r.layer ++ (codes " " ++ (decimal r.place ++ (10 ∷ []))))))
+refusal_line r = refusal_text r ++ (10 ∷ [])

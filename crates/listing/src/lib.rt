@@ -1,11 +1,12 @@
 // The lines that the programs print, as values: the words of a program, and one refusal.
 #![tactic(auto)]
 
-ghost use Rattle.std.specs.Prelude.{◌≡◌, ◌%◌, IfOk, string_bytes};
+ghost use Rattle.std.specs.Prelude.{◌≡◌, ◌%◌, Some, IfOk, string_bytes};
 ghost use Rattle.std.specs.List.{flat_map};
-ghost use Rattle.listing.specs.Lines.{hex_digit, word_line, LowerHex, hex_value, Reads, place_word, refusal_line};
+ghost use Rattle.listing.specs.Lines.{hex_digit, word_line, LowerHex, hex_value, Reads, place_word, refusal_text, refusal_line};
 
 use std::alloc::{AllocError, Global};
+use std::fmt;
 
 // Which part refused: the place in a text is a line, and in a program an address.
 #[derive(Clone, Copy, PartialEq, Eq, Debug)]
@@ -14,12 +15,37 @@ pub enum Layer {
     Program,
 }
 
+// What its places are called.
+impl fmt::Display for Layer {
+    ghost output = { λ layer. Some (place_word layer) };
+
+    fn fmt<W: fmt::Write>(&self, f: &mut fmt::Formatter<W>) -> fmt::Result {
+        f.write_str(match self {
+            Layer::Text => "line",
+            Layer::Program => "address",
+        })
+    }
+}
+
 // The number of the rule that was broken, and where.
 #[derive(Clone, Copy, PartialEq, Eq, Debug)]
 pub struct Refusal {
     pub number: u32,
     pub layer: Layer,
     pub place: u32,
+}
+
+// Its number, and the place that it speaks of.
+impl fmt::Display for Refusal {
+    ghost output = { λ refusal. Some (refusal_text refusal) };
+
+    fn fmt<W: fmt::Write>(&self, f: &mut fmt::Formatter<W>) -> fmt::Result {
+        write!(
+            f,
+            "refused {} at {} {}",
+            self.number, self.layer, self.place
+        )
+    }
 }
 
 // The digit for the low four bits of a value.
@@ -61,24 +87,11 @@ pub fn word_lines(heap: Global, words: &[u32]) -> Result<Vec<u8>, AllocError>
     Ok(lines)
 }
 
-// What the place of a refusal is called.
-fn place_word(layer: Layer) -> &'static str
-    ensures { result.now ≡ place_word layer }
-{
-    match layer {
-        Layer::Text => "line",
-        Layer::Program => "address",
-    }
-}
-
-// The line of a refusal: its number, and the place that it speaks of.
+// The line of a refusal.
 pub fn refusal_line(heap: Global, refusal: &Refusal) -> Result<String, AllocError>
     ensures { IfOk result (λ s. string_bytes s ≡ refusal_line refusal.now) }
 {
-    let number = refusal.number;
-    let word = place_word(refusal.layer);
-    let place = refusal.place;
-    format!(in heap; "refused {number} at {word} {place}\n")
+    format!(in heap; "{refusal}\n")
 }
 
 #[cfg(test)]
