@@ -31,19 +31,29 @@ module _ (xs : List ℕ) where
       let tap : (j : ℕ) → j < 9 → bit x j ≡ bit n (135 + j) = λ j h. sym (bit_below x 9 j h) ∙ (ap (λ y. bit y j) (sym e) ∙ (bit_below m 9 j h ∙ ap (λ y. y % 2) (shr-shr n 135 j))) in
       xor_low _ _ _ _ (xor_low _ _ _ _ (xor_low _ _ _ _ (tap 8 (omega arith)) (tap 6 (omega arith))) (tap 4 (omega arith))) (tap 1 (omega arith))
 
--- nine bits further up
-nine_more : (n i : ℕ) → n / 2 ^ (9 * (i + 1)) ≡ n / 2 ^ (9 * i) / 512
-nine_more n i = let e : 9 * (i + 1) ≡ 9 * i + 9 = omega arith in ap (λ x. n / 2 ^ x) e ∙ sym (shr-shr n (9 * i) 9)
+-- a lane of a number that is doubled: its low eight bits, above the bit that comes in
+module _ (xs : List ℕ) (fresh : ℕ) (small : fresh < 2) where
+  pub first_moved : get_or xs 0 0 % 256 * 2 + fresh ≡ (number_of 9 xs * 2 + fresh) / 2 ^ (9 * 0) % 512
+  first_moved =
+      let none : 9 * 0 ≡ 0 = omega arith in
+      let low : number_of 9 xs / 2 ^ (9 * 0) % 2 ^ 9 ≡ get_or xs 0 0 % 2 ^ 9 = entry_is 9 xs 0 in
+      let first = rw none at low in
+      rw none (omega arith)
 
--- a lane of a number that is doubled
-module _ (xs : List ℕ) (i fresh carry : ℕ) (small : carry < 2) (e : (number_of 9 xs * 2 + fresh) / 2 ^ (9 * i) ≡ number_of 9 xs / 2 ^ (9 * i) * 2 + carry) where
-  pub carry_more : (number_of 9 xs * 2 + fresh) / 2 ^ (9 * (i + 1)) ≡ number_of 9 xs / 2 ^ (9 * (i + 1)) * 2 + (get_or xs i 0 % 512 * 2 + carry) / 512
-  carry_more =
-      let x = entry_is 9 xs i in
-      rw (nine_more (number_of 9 xs * 2 + fresh) i, nine_more (number_of 9 xs) i, e) (omega arith)
-
-  pub lane_more : (get_or xs i 0 % 512 * 2 + carry) % 512 ≡ (number_of 9 xs * 2 + fresh) / 2 ^ (9 * i) % 512
-  lane_more = let x = entry_is 9 xs i in rw e (omega arith)
+  pub lane_moved : (i j : ℕ) → j ≡ i + 1 → get_or xs j 0 % 256 * 2 + get_or xs i 0 / 256 % 2 ≡ (number_of 9 xs * 2 + fresh) / 2 ^ (9 * j) % 512
+  lane_moved i j e =
+      let n : ℕ = number_of 9 xs in
+      let m : ℕ = n / 2 ^ (9 * i) in
+      let half : (n * 2 + fresh) / 2 ≡ n = omega arith in
+      let up : 9 * j ≡ 9 * i + 9 = omega arith in
+      let down : 9 * j ≡ 1 + (9 * i + 8) = omega arith in
+      let next : n / 2 ^ (9 * j) ≡ m / 512 = ap (λ x. n / 2 ^ x) up ∙ sym (shr-shr n (9 * i) 9) in
+      let doubled : (n * 2 + fresh) / 2 ^ (9 * j) ≡ m / 256 =
+      ap (λ x. (n * 2 + fresh) / 2 ^ x) down
+      ∙ (sym (shr-shr (n * 2 + fresh) 1 (9 * i + 8)) ∙ (ap (λ x. x / 2 ^ (9 * i + 8)) half ∙ sym (shr-shr n (9 * i) 8))) in
+      let low : m % 512 ≡ get_or xs i 0 % 512 = entry_is 9 xs i in
+      let high : m / 512 % 512 ≡ get_or xs j 0 % 512 = ap (λ x. x % 512) (sym next) ∙ entry_is 9 xs j in
+      rw doubled (omega arith)
 
 -- sixteen lanes that are read off a number make up its low 144 bits
 pub all_lanes : (xs : List ℕ) (n : ℕ) → length xs ≡ 16 → ((k : ℕ) → k < 16 → get_or xs k 0 ≡ n / 2 ^ (9 * k) % 512) → number_of 9 xs ≡ n % 2 ^ 144

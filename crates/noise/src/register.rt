@@ -24,8 +24,8 @@ impl Noise {
         ensures bits { Seeded bytes.now (value result) }
     {
         let mut lanes = [0; 16];
-        for lane in 0..16 {
-            lanes[lane] = nine_bits(bytes, lane);
+        for (lane, nine) in lanes.iter_mut().enumerate() {
+            *nine = nine_bits(bytes, lane);
         }
         Noise { lanes }
     }
@@ -69,17 +69,27 @@ fn taps(lanes: &[u16; 16]) -> u16
     ((last >> 8) ^ (last >> 6) ^ (last >> 4) ^ (last >> 1)) % 2
 }
 
+// The nine bits of a lane after every bit moved up one: the lowest is the highest of the lane below, or the new bit 0.
+fn moved_lane(lanes: &[u16; 16], fresh: u16, lane: usize) -> u16
+    requires { (fresh < 2) × (lane < 16) }
+    ensures { result ≡ (number_of 9 lanes.now * 2 + fresh) / 2 ^ (9 * lane) % 512 }
+{
+    let carry = if lane == 0 {
+        fresh
+    } else {
+        lanes[lane - 1] / 256 % 2
+    };
+    (lanes[lane] % 256) * 2 + carry
+}
+
 // Every bit moved up one, with a new bit 0.
 fn moved_up(lanes: &[u16; 16], fresh: u16) -> [u16; 16]
     requires { fresh < 2 }
     ensures { number_of 9 result ≡ (number_of 9 lanes.now * 2 + fresh) % 2 ^ 144 }
 {
     let mut moved = [0; 16];
-    let mut carry = fresh;
-    for lane in 0..16 {
-        let wide = lanes[lane] % 512 * 2 + carry;
-        moved[lane] = wide % 512;
-        carry = wide / 512;
+    for (lane, nine) in moved.iter_mut().enumerate() {
+        *nine = moved_lane(lanes, fresh, lane);
     }
     moved
 }
