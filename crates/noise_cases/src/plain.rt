@@ -5,17 +5,15 @@ ghost use Rattle.std.specs.Prelude.{◌<◌};
 pub(crate) fn stepped(bits: &[bool; 144]) -> [bool; 144] {
     let mut after = [false; 144];
     after[0] = bits[143] ^ bits[141] ^ bits[139] ^ bits[136];
-    for j in 0..143 {
-        after[j + 1] = bits[j];
-    }
+    after[1..].copy_from_slice(&bits[..143]);
     after
 }
 
 // Byte j holds bits 8j to 8j + 7.
 pub(crate) fn seeded(bytes: &[u8; 18]) -> [bool; 144] {
     let mut bits = [false; 144];
-    for j in 0..144 {
-        bits[j] = (bytes[j / 8] >> (j % 8)) % 2 == 1;
+    for (j, bit) in bits.iter_mut().enumerate() {
+        *bit = (bytes[j / 8] >> (j % 8)) % 2 == 1;
     }
     bits
 }
@@ -25,15 +23,5 @@ pub(crate) fn three(bits: &[bool; 144], lane: usize, channel: usize) -> u16
     requires { (lane < 16) × (channel < 3) }
 {
     let start = 9 * lane + 3 * channel;
-    let mut number = 0;
-    if bits[start] {
-        number += 1;
-    }
-    if bits[start + 1] {
-        number += 2;
-    }
-    if bits[start + 2] {
-        number += 4;
-    }
-    number
+    u16::from(bits[start]) + u16::from(bits[start + 1]) * 2 + u16::from(bits[start + 2]) * 4
 }
