@@ -32,8 +32,8 @@ branch_lane a d u f i s wake = elim (cases_Bool (u.negative (source u f i s.own 
 ]
 
 still_by : (w : Instruction) → Plain w → Still w
-still_by (ins.Two o d a b) g = record { x_kept = λ x. refl; goes_on = λ x p. refl; lane = λ u f i s wake. inl (refl, refl) }
-still_by (ins.One o d a) g = record { x_kept = λ x. refl; goes_on = λ x p. refl; lane = λ u f i s wake. inl (refl, refl) }
+still_by (ins.Binary o d a b) g = record { x_kept = λ x. refl; goes_on = λ x p. refl; lane = λ u f i s wake. inl (refl, refl) }
+still_by (ins.Unary o d a) g = record { x_kept = λ x. refl; goes_on = λ x p. refl; lane = λ u f i s wake. inl (refl, refl) }
 still_by (ins.Cmov d a b) g = record { x_kept = λ x. refl; goes_on = λ x p. refl; lane = λ u f i s wake. inl (refl, refl) }
 still_by ins.Done g = record { x_kept = λ x. refl; goes_on = λ x p. refl; lane = λ u f i s wake. inl (refl, refl) }
 still_by (ins.Bltz a d) g = record { x_kept = λ x. refl; goes_on = λ x p. refl; lane = branch_lane a d }

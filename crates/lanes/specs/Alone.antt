@@ -18,8 +18,8 @@ begins own = record { at = 0; x = 0; own = own }
 
 -- the address after an instruction
 abbrev pub next : Rules → Frame → ℕ → Instruction → Alone → ℕ
-next u f i (ins.Two o d a b) s = suc s.at
-next u f i (ins.One o d a) s = suc s.at
+next u f i (ins.Binary o d a b) s = suc s.at
+next u f i (ins.Unary o d a) s = suc s.at
 next u f i (ins.Cmov d a b) s = suc s.at
 next u f i ins.Done s = suc s.at
 next u f i (ins.Bltz a d) s = cond (u.negative (source u f i s.own a)) d (suc s.at)
@@ -28,8 +28,8 @@ next u f i (ins.Loop t) s = cond (nat_lt 0 s.x) t (suc s.at)
 
 -- X after an instruction
 abbrev pub counted : Instruction → ℕ → ℕ
-counted (ins.Two o d a b) x = x
-counted (ins.One o d a) x = x
+counted (ins.Binary o d a b) x = x
+counted (ins.Unary o d a) x = x
 counted (ins.Cmov d a b) x = x
 counted ins.Done x = x
 counted (ins.Bltz a d) x = x

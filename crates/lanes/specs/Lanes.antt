@@ -1,10 +1,10 @@
 -- One word's effect on one lane, over any ten rules of a unit.
 use Rattle.std.specs.Prelude.{ℕ, ◌-◌, ◌*◌, cond, List, ℤ, pos, ◌*ℤ◌, ◌==◌, nat_lt, slice_index, slice_set}
 use Rattle.units.specs.Rules.{Rules}
-use Rattle.program.specs.declared.word.Two.{Two}
-use Rattle.program.specs.declared.word.Two.TheVariants.{Add, Sub, Mul, Div}
-use Rattle.program.specs.declared.word.One.{One}
-use Rattle.program.specs.declared.word.One.TheVariants.{Floor, Abs, Sqrt}
+use Rattle.operations.specs.declared.Binary.{Binary}
+use Rattle.operations.specs.declared.Binary.TheVariants.{Add, Sub, Mul, Div}
+use Rattle.operations.specs.declared.Unary.{Unary}
+use Rattle.operations.specs.declared.Unary.TheVariants.{Floor, Abs, Sqrt}
 use Rattle.program.specs.declared.word.Instruction.{Instruction}
 use Rattle.program.specs.declared.word.Instruction.TheVariants as ins
 
@@ -28,21 +28,21 @@ source u f i own r =
 abbrev pub kept : ℕ → ℕ → List ℕ → List ℕ
 kept d v own = cond (d == 0) own (slice_set own (d - 1) v)
 
-abbrev pub two : Rules → Two → ℕ → ℕ → ℕ
-two u Add = u.add
-two u Sub = u.sub
-two u Mul = u.mul
-two u Div = u.div
+abbrev pub binary : Rules → Binary → ℕ → ℕ → ℕ
+binary u Add = u.add
+binary u Sub = u.sub
+binary u Mul = u.mul
+binary u Div = u.div
 
-abbrev pub one : Rules → One → ℕ → ℕ
-one u Floor = u.floor
-one u Abs = u.abs
-one u Sqrt = u.sqrt
+abbrev pub unary : Rules → Unary → ℕ → ℕ
+unary u Floor = u.floor
+unary u Abs = u.abs
+unary u Sqrt = u.sqrt
 
 -- the lane's own registers after an instruction
 unfoldable pub obeyed : Rules → Frame → ℕ → Instruction → List ℕ → List ℕ
-obeyed u f i (ins.Two o d a b) own = kept d (two u o (source u f i own a) (source u f i own b)) own
-obeyed u f i (ins.One o d a) own = kept d (one u o (source u f i own a)) own
+obeyed u f i (ins.Binary o d a b) own = kept d (binary u o (source u f i own a) (source u f i own b)) own
+obeyed u f i (ins.Unary o d a) own = kept d (unary u o (source u f i own a)) own
 obeyed u f i (ins.Cmov d a b) own = cond (u.negative (source u f i own b)) (kept d (source u f i own a) own) own
 obeyed u f i ins.Done own = own
 obeyed u f i (ins.Bltz a d) own = own

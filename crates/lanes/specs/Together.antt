@@ -35,8 +35,8 @@ pub data FetchAt (s : Together) : ℕ → Type 0 where
 
 -- the wake address after a word of a lane that is awake: a taken branch sets it
 abbrev pub woken : Rules → Frame → ℕ → Instruction → List ℕ → ℕ → ℕ
-woken u f i (ins.Two o d a b) own w = w
-woken u f i (ins.One o d a) own w = w
+woken u f i (ins.Binary o d a b) own w = w
+woken u f i (ins.Unary o d a) own w = w
 woken u f i (ins.Cmov d a b) own w = w
 woken u f i ins.Done own w = w
 woken u f i (ins.Bltz a d) own w = cond (u.negative (source u f i own a)) d w
@@ -45,8 +45,8 @@ woken u f i (ins.Loop t) own w = w
 
 -- the core's address after the word at p: a loop goes back while X lasts
 abbrev pub onward : Instruction → ℕ → ℕ → ℕ
-onward (ins.Two o d a b) x p = suc p
-onward (ins.One o d a) x p = suc p
+onward (ins.Binary o d a b) x p = suc p
+onward (ins.Unary o d a) x p = suc p
 onward (ins.Cmov d a b) x p = suc p
 onward ins.Done x p = suc p
 onward (ins.Bltz a d) x p = suc p

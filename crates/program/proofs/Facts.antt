@@ -3,7 +3,7 @@ use Rattle.std.proofs.Common.{◌≡◌, ℕ, suc, ◌<◌, ◌≤◌, ◌⊎◌
 use Rattle.std.proofs.lemmas.Bool.{cases_lt, cases_order}
 use Rattle.std.proofs.lemmas.Bool.Decides.{nat_tests}
 use Rattle.program.specs.declared.word.Instruction.{Instruction}
-use Rattle.program.specs.declared.word.Instruction.TheVariants.{Two, One, Cmov, Done, Bltz, Setx, Loop}
+use Rattle.program.specs.declared.word.Instruction.TheVariants.{Binary, Unary, Cmov, Done, Bltz, Setx, Loop}
 use Rattle.program.specs.Rules.{At, Feeds, Looped, Accepted}
 use Rattle.program.specs.Words.{decoded}
 
@@ -27,8 +27,8 @@ pub data Kind : Instruction → Type 0 where
   is_loop : (t : ℕ) → Kind (Loop t)
 
 pub kind : (i : Instruction) → Kind i
-kind (Two o d a b) = plain (record { no_setx = λ n e. grind arith; no_loop = λ t e. grind arith })
-kind (One o d a) = plain (record { no_setx = λ n e. grind arith; no_loop = λ t e. grind arith })
+kind (Binary o d a b) = plain (record { no_setx = λ n e. grind arith; no_loop = λ t e. grind arith })
+kind (Unary o d a) = plain (record { no_setx = λ n e. grind arith; no_loop = λ t e. grind arith })
 kind (Cmov d a b) = plain (record { no_setx = λ n e. grind arith; no_loop = λ t e. grind arith })
 kind Done = plain (record { no_setx = λ n e. grind arith; no_loop = λ t e. grind arith })
 kind (Bltz a t) = plain (record { no_setx = λ n e. grind arith; no_loop = λ t e. grind arith })
@@ -36,8 +36,8 @@ kind (Setx n) = is_setx n
 kind (Loop t) = is_loop t
 
 pub done? : (i : Instruction) → (i ≡ Done) ⊎ (i ≡ Done → ⊥)
-done? (Two o d a b) = inr (λ e. grind arith)
-done? (One o d a) = inr (λ e. grind arith)
+done? (Binary o d a b) = inr (λ e. grind arith)
+done? (Unary o d a) = inr (λ e. grind arith)
 done? (Cmov d a b) = inr (λ e. grind arith)
 done? Done = inl refl
 done? (Bltz a t) = inr (λ e. grind arith)

@@ -5,3 +5,4 @@ pub mod Live
 pub mod Outcomes
 pub mod Scans
 pub mod Worked
+pub mod Words

@@ -1,9 +1,9 @@
 -- Word formats: a code in bits 19 to 16 and the fields that go with it. Bits without a use have no part in it.
 use Rattle.std.specs.Prelude.{◌≡◌, ℕ, ◌+◌, ◌*◌, ◌/◌, ◌%◌, cond, Some, None, Option, Result, MatchResult, ◌==◌, nat_lt}
-use Rattle.program.specs.declared.word.Two.{Two}
-use Rattle.program.specs.declared.word.Two.TheVariants.{Add, Sub, Mul, Div}
-use Rattle.program.specs.declared.word.One.{One}
-use Rattle.program.specs.declared.word.One.TheVariants.{Floor, Abs, Sqrt}
+use Rattle.operations.specs.declared.Binary.{Binary}
+use Rattle.operations.specs.declared.Binary.TheVariants.{Add, Sub, Mul, Div}
+use Rattle.operations.specs.declared.Unary.{Unary}
+use Rattle.operations.specs.declared.Unary.TheVariants.{Floor, Abs, Sqrt}
 use Rattle.program.specs.declared.word.Instruction.{Instruction}
 use Rattle.program.specs.declared.word.Instruction.TheVariants as ins
 use Rattle.program.specs.declared.word.UnknownWord.{UnknownWord}
@@ -28,16 +28,16 @@ branch_target w = field_d w * 128 + w % 128
 abbrev pub loop_target : ℕ → ℕ
 loop_target w = w % 2048
 
-abbrev pub two_of : ℕ → Two
-two_of c = cond (c == 0) Add (cond (c == 1) Sub (cond (c == 2) Mul Div))
+abbrev pub binary_of : ℕ → Binary
+binary_of c = cond (c == 0) Add (cond (c == 1) Sub (cond (c == 2) Mul Div))
 
-abbrev pub one_of : ℕ → One
-one_of c = cond (c == 4) Floor (cond (c == 5) Abs Sqrt)
+abbrev pub unary_of : ℕ → Unary
+unary_of c = cond (c == 4) Floor (cond (c == 5) Abs Sqrt)
 
 unfoldable pub decoded : ℕ → Option Instruction
 decoded w =
-    cond (nat_lt (code_of w) 4) (Some (ins.Two (two_of (code_of w)) (field_d w) (field_a w) (field_b w)))
-    (cond (nat_lt (code_of w) 7) (Some (ins.One (one_of (code_of w)) (field_d w) (field_a w)))
+    cond (nat_lt (code_of w) 4) (Some (ins.Binary (binary_of (code_of w)) (field_d w) (field_a w) (field_b w)))
+    (cond (nat_lt (code_of w) 7) (Some (ins.Unary (unary_of (code_of w)) (field_d w) (field_a w)))
     (cond (code_of w == 8) (Some (ins.Cmov (field_d w) (field_a w) (field_b w)))
     (cond (code_of w == 10) (Some ins.Done)
     (cond (code_of w == 13) (Some (ins.Bltz (field_a w) (branch_target w)))

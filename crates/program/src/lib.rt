@@ -11,8 +11,9 @@ mod scan;
 mod word;
 
 pub use fault::Fault;
+pub use operations::{Binary, Unary};
 pub use rules::check;
-pub use word::{Instruction, One, Two, UnknownWord};
+pub use word::{Instruction, UnknownWord};
 
 // Three programs that were worked by hand, from the rules.
 pub fn worked_programs()

@@ -1,31 +1,16 @@
 // A program word taken apart.
 ghost use Rattle.std.specs.Prelude.{◌≡◌, ◌<◌, ◌≤◌};
-ghost use Rattle.program.specs.Words.{two_of, one_of, Decodes};
+ghost use Rattle.program.specs.Words.{Decodes};
 
-// The functions of two registers.
-#[derive(Clone, Copy, PartialEq, Debug)]
-pub enum Two {
-    Add,
-    Sub,
-    Mul,
-    Div,
-}
-
-// The functions of one register.
-#[derive(Clone, Copy, PartialEq, Debug)]
-pub enum One {
-    Floor,
-    Abs,
-    Sqrt,
-}
+use operations::{Binary, Unary};
 
 // A destination d is register 16 + d, and 0 discards; a source is a register.
-#[derive(Clone, Copy, PartialEq, Debug)]
+#[derive(Clone, Copy, PartialEq, Eq, Debug)]
 pub enum Instruction {
     // d becomes a op b
-    Two(Two, u32, u32, u32),
+    Binary(Binary, u32, u32, u32),
     // d becomes op a
-    One(One, u32, u32),
+    Unary(Unary, u32, u32),
     // d becomes a if b is negative
     Cmov(u32, u32, u32),
     // the end of a run
@@ -36,31 +21,6 @@ pub enum Instruction {
     Setx(u32),
     // to the target while X lasts
     Loop(usize),
-}
-
-// The function of two registers with this code.
-fn two_of(code: u32) -> Two
-    requires { code < 4 }
-    ensures { result ≡ two_of code }
-{
-    match code {
-        0 => Two::Add,
-        1 => Two::Sub,
-        2 => Two::Mul,
-        _ => Two::Div,
-    }
-}
-
-// The function of one register with this code.
-fn one_of(code: u32) -> One
-    requires { (4 ≤ code) × (code < 7) }
-    ensures { result ≡ one_of code }
-{
-    match code {
-        4 => One::Floor,
-        5 => One::Abs,
-        _ => One::Sqrt,
-    }
 }
 
 // That a word is too wide, or its code is not in use.
@@ -80,8 +40,17 @@ impl TryFrom<u32> for Instruction {
         let b = word / 4 % 32;
         match word / 65536 {
             code if code > 15 => Err(UnknownWord),
-            code @ 0..=3 => Ok(Instruction::Two(two_of(code), d, a, b)),
-            code @ 4..=6 => Ok(Instruction::One(one_of(code), d, a)),
+            code @ 0..=3 => Ok(Instruction::Binary(
+                Binary::try_from(code).map_err(|_| UnknownWord)?,
+                d,
+                a,
+                b,
+            )),
+            code @ 4..=6 => Ok(Instruction::Unary(
+                Unary::try_from(code).map_err(|_| UnknownWord)?,
+                d,
+                a,
+            )),
             8 => Ok(Instruction::Cmov(d, a, b)),
             10 => Ok(Instruction::Done),
             13 => Ok(Instruction::Bltz(a, (d * 128 + word % 128) as usize)),
