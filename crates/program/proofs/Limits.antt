@@ -2,23 +2,21 @@
 use Rattle.std.proofs.Common.{◌≡◌, ℕ, suc, ◌+◌, ◌-◌, ◌*◌, ◌<◌, ◌≤◌, List, [], ◌∷◌, length, get_or, set, Some, None, sum, Option, refl, inl, inr, arith}
 use native.Mathlib.Nat.{sub-zero}
 use Rattle.std.specs.List.{AllByRecursion}
+use Rattle.std.specs.Option.{MatchOption, IsSomeAnd}
 use Rattle.std.proofs.ByRecursion.{All-from_get_or, All-set, sum_by_le}
 use Rattle.std.proofs.lemmas.List.{ext_get_or, length-set, get_or-set_other}
 use Rattle.std.proofs.lemmas.List.Sums.{sum_by-cons, sum_by-set}
 use Rattle.std.proofs.lemmas.Bool.{cases_lt, cases_eq, cases_order, cond-true, cond-false, le-leb, lt-leb}
 use Rattle.program.specs.declared.limit.Body.{Body}
-use Rattle.program.specs.declared.word.Instruction.TheVariants.{Loop}
+use Rattle.program.specs.declared.place.Setx.{Setx}
 use Rattle.program.specs.declared.word.Instruction.TheVariants as ins
 use Rattle.program.specs.Bodies.{Next, weight_of}
-use Rattle.program.specs.Scans.{Feeder}
-use Rattle.std.specs.Prelude.{MatchOption}
-use Rattle.std.specs.Option.{IsSomeAnd}
-use Rattle.program.specs.declared.place.Setx.{Setx}
-use Rattle.program.proofs.Scans.{unfed_wrong, own_looped}
 use Rattle.program.specs.Limits.{InBody, Weight, Limit}
 use Rattle.program.specs.Rules.{At, Accepted}
+use Rattle.program.specs.Scans.{Feeder}
 use Rattle.program.proofs.Facts.{count_most, accepted_short, looped_one, setx_behind, not_last}
 use Rattle.program.proofs.Live.{live_body, body_one, dead_at_setx}
+use Rattle.program.proofs.Scans.{unfed_wrong, own_looped}
 
 -- an address has one weight
 weight_one : {words : List ℕ} {a w v : ℕ} → Weight words a w → Weight words a v → w ≡ v
@@ -58,19 +56,8 @@ next_weight words a (Some body) next =
           | inr d ↦ elim d [ inl d ↦ omega (arith, setx_behind next.looped p.looped d, p.looped.inside, next.above) | inr d ↦ next.lowest p.loop p.target p.upto d p.looped.loop ]
         ]
 
--- the same next loop, one address down
-pub next_down : (words : List ℕ) (a : ℕ) (body : Option Body) → ((t : ℕ) → At words a (Loop t) → ⊥) → Next words (a + 1) body → Next words a body
-next_down words a None none next = λ k t low p. elim (cases_eq k a) [ inl e ↦ none t (rw e at p) | inr e ↦ next k t (omega arith) p ]
-next_down words a (Some body) none next = record {
-  setx = next.setx;
-  loop = next.loop;
-  looped = next.looped;
-  above = omega (arith, next.above);
-  lowest = λ k t low high p. elim (cases_eq k a) [ inl e ↦ none t (rw e at p) | inr e ↦ next.lowest k t (omega arith) high p ];
-}
-
 -- the next loop at a loop is that loop, with its setx
-module _ {words : List ℕ} {a t : ℕ} (ok : Accepted words) (loop : At words a (Loop t)) where
+module _ {words : List ℕ} {a t : ℕ} (ok : Accepted words) (loop : At words a (ins.Loop t)) where
   pub next_here : (made : Setx → Body → Type 0) → ((s : Setx) (b : Body) → made s b → (b.target ≡ t) × (b.count ≡ s.count)) → (setx : Option Setx) (body : Option Body) → Feeder words a setx → MatchOption setx (body ≡ None) (λ s. IsSomeAnd body (made s)) → Next words a body
   next_here made same (Some s) (Some b) own e = let (target, count) = same s b e in record { setx = s.address; loop = a; looped = rw (target, count) (own_looped ok loop own); above = omega arith; lowest = λ k t low high. absurd (omega arith) }
   next_here made same (Some s) None own e = absurd e

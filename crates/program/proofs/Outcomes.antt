@@ -1,7 +1,6 @@
 -- A program has one outcome.
-use Rattle.std.specs.Prelude.{is_ok}
-use Rattle.std.specs.Result.{result_err}
 use Rattle.std.proofs.Common.{◌≡◌, ℕ, ◌⊎◌, List, [], ◌∷◌, Ok, Err, Result, refl, inl, inr}
+use Rattle.std.specs.Result.{is_ok, result_err}
 use Rattle.std.proofs.lemmas.Bool.{cases_order}
 use Rattle.program.specs.declared.fault.Fault.{Fault}
 use Rattle.program.specs.declared.fault.Fault.TheVariants as fault

@@ -7,8 +7,8 @@ use Rattle.std.proofs.lemmas.List.{get_or-drop, get_or-take, length-drop, length
 use Rattle.program.specs.declared.word.Instruction.{Instruction}
 use Rattle.program.specs.declared.word.Instruction.TheVariants.{Setx, Loop}
 use Rattle.program.specs.Rules.{At, Looped, WrongLoop, Accepted}
-use Rattle.program.specs.Words.{decoded}
 use Rattle.program.specs.Scans.{SetxIn, LoopOver, Own, Rule, Word, Ending, Target, SetxSkipped, Feeding, IntoLoop, Breaks}
+use Rattle.program.specs.Words.{decoded}
 use Rattle.program.proofs.Facts.{at_one, not_both, Kind, plain, is_setx, is_loop, kind, feeds_one, placed}
 
 pub breaks_within : (rule : Rule) (words : List ℕ) (a : ℕ) → Breaks rule words a → a < length words
