@@ -1,9 +1,13 @@
 // Instructions: their names, and the operands that each takes.
 ghost use Rattle.std.specs.Prelude.{◌≡◌, Decides, MatchOption, ◌≢◌};
-ghost use Rattle.grammar.specs.Forms.{spelling, NamedBy, is_destination, is_register, is_number, is_label, FormedBy, CodeAt};
+ghost use Rattle.grammar.specs.Forms.{spelling, NamedBy, FormedBy, CodeAt};
 ghost use Rattle.grammar.specs.Grammar.{opds};
 
-use crate::operand::{Operand, Operands, operands_of};
+use crate::operand::Operand::{self, Label, Number, Register};
+use crate::operand::{Operands, operands_of};
+
+// The first register that can be written; the last is $31.
+const FIRST_DESTINATION: u32 = 16;
 
 // D becomes A op B.
 #[derive(Clone, Copy)]
@@ -110,90 +114,22 @@ fn mnemonic_of(name: &[u8]) -> Option<Mnemonic>
     }
 }
 
-// A register that can be written: $16 to $31.
-fn is_destination(o: &Operand) -> bool
-    ensures { result ≡ is_destination o.now }
-{
-    match o {
-        Operand::Register(v) => *v >= 16,
-        _ => false,
-    }
-}
-
-fn is_register(o: &Operand) -> bool
-    ensures { result ≡ is_register o.now }
-{
-    match o {
-        Operand::Register(_) => true,
-        _ => false,
-    }
-}
-
-fn is_number(o: &Operand) -> bool
-    ensures { result ≡ is_number o.now }
-{
-    match o {
-        Operand::Number(_) => true,
-        _ => false,
-    }
-}
-
-fn is_label(o: &Operand) -> bool
-    ensures { result ≡ is_label o.now }
-{
-    match o {
-        Operand::Label(_) => true,
-        _ => false,
-    }
-}
-
 // The instruction of a name with these operands.
 fn formed<'a>(m: Mnemonic, list: Operands<'a>) -> Option<Instruction<'a>>
     ensures { FormedBy m (opds list.entry) result }
 {
     match (m, list) {
-        (Mnemonic::Binary(op), Operands::Three(d, a, b)) => {
-            if is_destination(&d) && is_register(&a) && is_register(&b) {
-                Some(Instruction::Binary(op, d, a, b))
-            } else {
-                None
-            }
+        (Mnemonic::Binary(op), Operands::Three(d @ Register(n), a @ Register(_), b @ Register(_)))
+            if n >= FIRST_DESTINATION => Some(Instruction::Binary(op, d, a, b)),
+        (Mnemonic::Unary(op), Operands::Two(d @ Register(n), a @ Register(_)))
+            if n >= FIRST_DESTINATION => Some(Instruction::Unary(op, d, a)),
+        (Mnemonic::Cmov, Operands::Three(d @ Register(n), a @ Register(_), b @ Register(_)))
+            if n >= FIRST_DESTINATION => Some(Instruction::Cmov(d, a, b)),
+        (Mnemonic::Bltz, Operands::Two(a @ Register(_), t @ Label(_))) => {
+            Some(Instruction::Bltz(a, t))
         }
-        (Mnemonic::Unary(op), Operands::Two(d, a)) => {
-            if is_destination(&d) && is_register(&a) {
-                Some(Instruction::Unary(op, d, a))
-            } else {
-                None
-            }
-        }
-        (Mnemonic::Cmov, Operands::Three(d, a, b)) => {
-            if is_destination(&d) && is_register(&a) && is_register(&b) {
-                Some(Instruction::Cmov(d, a, b))
-            } else {
-                None
-            }
-        }
-        (Mnemonic::Bltz, Operands::Two(a, t)) => {
-            if is_register(&a) && is_label(&t) {
-                Some(Instruction::Bltz(a, t))
-            } else {
-                None
-            }
-        }
-        (Mnemonic::Setx, Operands::One(v)) => {
-            if is_number(&v) {
-                Some(Instruction::Setx(v))
-            } else {
-                None
-            }
-        }
-        (Mnemonic::Loop, Operands::One(t)) => {
-            if is_label(&t) {
-                Some(Instruction::Loop(t))
-            } else {
-                None
-            }
-        }
+        (Mnemonic::Setx, Operands::One(v @ Number(_))) => Some(Instruction::Setx(v)),
+        (Mnemonic::Loop, Operands::One(t @ Label(_))) => Some(Instruction::Loop(t)),
         (Mnemonic::Done, Operands::Zero) => Some(Instruction::Done),
         (Mnemonic::Nop, Operands::Zero) => Some(Instruction::Nop),
         _ => None,
