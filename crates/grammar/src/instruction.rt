@@ -1,6 +1,5 @@
 // Instructions: their names, and the operands that each takes.
-ghost use Rattle.std.specs.Prelude.{◌≡◌, Decides, MatchOption, ◌≢◌};
-ghost use Rattle.grammar.specs.Forms.{spelling, NamedBy, FormedBy, CodeAt};
+ghost use Rattle.grammar.specs.Forms.{NamedBy, FormedBy, CodeAt};
 ghost use Rattle.grammar.specs.Grammar.{opds};
 
 use crate::operand::Operand::{self, Label, Number, Register};
@@ -52,66 +51,26 @@ pub enum Instruction<'a> {
     Nop,
 }
 
-// Whether the bytes are those of the word.
-fn is_word(name: &[u8], word: &[u8]) -> bool
-    ensures { Decides result (name.now ≡ word.now) }
-{
-    name == word
-}
-
-fn binary_of(name: &[u8]) -> Option<Binary>
-    ensures { MatchOption result ((op : Binary) → name.now ≢ spelling (Mnemonic.Binary op)) (λ op. name.now ≡ spelling (Mnemonic.Binary op)) }
-{
-    if is_word(name, b"add") {
-        Some(Binary::Add)
-    } else if is_word(name, b"sub") {
-        Some(Binary::Sub)
-    } else if is_word(name, b"mul") {
-        Some(Binary::Mul)
-    } else if is_word(name, b"div") {
-        Some(Binary::Div)
-    } else {
-        None
-    }
-}
-
-fn unary_of(name: &[u8]) -> Option<Unary>
-    ensures { MatchOption result ((op : Unary) → name.now ≢ spelling (Mnemonic.Unary op)) (λ op. name.now ≡ spelling (Mnemonic.Unary op)) }
-{
-    if is_word(name, b"floor") {
-        Some(Unary::Floor)
-    } else if is_word(name, b"abs") {
-        Some(Unary::Abs)
-    } else if is_word(name, b"sqrt") {
-        Some(Unary::Sqrt)
-    } else {
-        None
-    }
-}
-
 // The instruction of this name.
 fn mnemonic_of(name: &[u8]) -> Option<Mnemonic>
     ensures { NamedBy name.now result }
 {
-    if let Some(op) = binary_of(name) {
-        Some(Mnemonic::Binary(op))
-    } else if let Some(op) = unary_of(name) {
-        Some(Mnemonic::Unary(op))
-    } else if is_word(name, b"cmov") {
-        Some(Mnemonic::Cmov)
-    } else if is_word(name, b"bltz") {
-        Some(Mnemonic::Bltz)
-    } else if is_word(name, b"setx") {
-        Some(Mnemonic::Setx)
-    } else if is_word(name, b"loop") {
-        Some(Mnemonic::Loop)
-    } else if is_word(name, b"done") {
-        Some(Mnemonic::Done)
-    } else if is_word(name, b"nop") {
-        Some(Mnemonic::Nop)
-    } else {
-        None
-    }
+    Some(match name {
+        b"add" => Mnemonic::Binary(Binary::Add),
+        b"sub" => Mnemonic::Binary(Binary::Sub),
+        b"mul" => Mnemonic::Binary(Binary::Mul),
+        b"div" => Mnemonic::Binary(Binary::Div),
+        b"floor" => Mnemonic::Unary(Unary::Floor),
+        b"abs" => Mnemonic::Unary(Unary::Abs),
+        b"sqrt" => Mnemonic::Unary(Unary::Sqrt),
+        b"cmov" => Mnemonic::Cmov,
+        b"bltz" => Mnemonic::Bltz,
+        b"setx" => Mnemonic::Setx,
+        b"loop" => Mnemonic::Loop,
+        b"done" => Mnemonic::Done,
+        b"nop" => Mnemonic::Nop,
+        _ => return None,
+    })
 }
 
 // The instruction of a name with these operands.
