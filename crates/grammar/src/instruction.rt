@@ -9,7 +9,7 @@ use crate::operand::{Operands, operands_of};
 const FIRST_DESTINATION: u32 = 16;
 
 // D becomes A op B.
-#[derive(Clone, Copy)]
+#[derive(Clone, Copy, PartialEq, Eq, Debug)]
 pub enum Binary {
     Add,
     Sub,
@@ -18,7 +18,7 @@ pub enum Binary {
 }
 
 // D becomes op A.
-#[derive(Clone, Copy)]
+#[derive(Clone, Copy, PartialEq, Eq, Debug)]
 pub enum Unary {
     Floor,
     Abs,
@@ -26,7 +26,7 @@ pub enum Unary {
 }
 
 // What the first name of an instruction says.
-#[derive(Clone, Copy)]
+#[derive(Clone, Copy, PartialEq, Eq, Debug)]
 pub enum Mnemonic {
     Binary(Binary),
     Unary(Unary),
@@ -39,7 +39,7 @@ pub enum Mnemonic {
 }
 
 // An instruction with its operands, the destination first.
-#[derive(Clone, Copy)]
+#[derive(Clone, Copy, PartialEq, Eq, Debug)]
 pub enum Instruction<'a> {
     Binary(Binary, Operand<'a>, Operand<'a>, Operand<'a>),
     Unary(Unary, Operand<'a>, Operand<'a>),

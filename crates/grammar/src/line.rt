@@ -4,7 +4,7 @@ ghost use Rattle.grammar.specs.Lines.{CodeFrom, LabelOf, Reading, OneReading};
 use crate::instruction::{Instruction, code_at};
 use crate::token::{Token, next_token};
 
-#[derive(Clone, Copy)]
+#[derive(Clone, Copy, PartialEq, Eq, Debug)]
 pub struct Line<'a> {
     pub label: Option<&'a [u8]>,
     pub code: Option<Instruction<'a>>,

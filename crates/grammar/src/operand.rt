@@ -4,7 +4,7 @@ ghost use Rattle.grammar.specs.Grammar.{ReadsOn, NotNumber, NumberUpTo, OperandO
 
 use crate::token::{Token, next_token};
 
-#[derive(Clone, Copy)]
+#[derive(Clone, Copy, PartialEq, Eq, Debug)]
 pub enum Operand<'a> {
     Register(u32),
     Number(u32),
@@ -12,7 +12,7 @@ pub enum Operand<'a> {
 }
 
 // The operands of one instruction.
-#[derive(Clone, Copy)]
+#[derive(Clone, Copy, PartialEq, Eq, Debug)]
 pub enum Operands<'a> {
     Zero,
     One(Operand<'a>),

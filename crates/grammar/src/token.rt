@@ -5,7 +5,7 @@ ghost use Rattle.grammar.specs.Bytes.{class_of, goes_on};
 ghost use Rattle.grammar.specs.Tokens.{line_of, Lexes, Fronts, Stops, Opens};
 
 // What a byte can be or begin.
-#[derive(Clone, Copy)]
+#[derive(Clone, Copy, PartialEq, Eq, Debug)]
 pub enum Class {
     Letter,
     Digit,
@@ -19,7 +19,7 @@ pub enum Class {
 }
 
 // What a run of bytes is made of.
-#[derive(Clone, Copy)]
+#[derive(Clone, Copy, PartialEq, Eq, Debug)]
 pub enum Run {
     Spaces,
     Name,
@@ -28,7 +28,7 @@ pub enum Run {
 }
 
 // A part of the text, with the number of its line.
-#[derive(Clone, Copy)]
+#[derive(Clone, Copy, PartialEq, Eq, Debug)]
 pub enum Token<'a> {
     Name { text: &'a [u8], line: u32 },
     Number { text: &'a [u8], line: u32 },
