@@ -4,6 +4,7 @@ ghost use Rattle.grammar.specs.Grammar.{opds};
 
 use crate::operand::Operand::{self, Label, Number, Register};
 use crate::operand::{Operands, operands_of};
+use crate::token::Rest;
 
 // The first register that can be written; the last is $31.
 const FIRST_DESTINATION: u32 = 16;
@@ -96,10 +97,10 @@ fn formed<'a>(m: Mnemonic, list: Operands<'a>) -> Option<Instruction<'a>>
 }
 
 // The instruction that a name and the rest of its line write.
-pub(crate) fn code_at<'a>(name: &'a [u8], rest: &'a [u8], line: u32) -> Option<Instruction<'a>>
-    ensures { CodeAt name.now rest.now result }
+pub(crate) fn code_at<'a>(name: &'a [u8], rest: Rest<'a>) -> Option<Instruction<'a>>
+    ensures { CodeAt name.now rest.entry.bytes.now result }
 {
     let m = mnemonic_of(name)?;
-    let list = operands_of(rest, line)?;
+    let list = operands_of(rest)?;
     formed(m, list)
 }

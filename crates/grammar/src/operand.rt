@@ -2,7 +2,7 @@
 ghost use Rattle.std.specs.Prelude.{◌≡◌, ℕ, ◌<◌, ◌≤◌, ◌∷◌, length, decimal, Decides, MatchOption, ◌≢◌, nat_le, slice_index};
 ghost use Rattle.grammar.specs.Grammar.{ReadsOn, NotNumber, NumberUpTo, OperandOf, MoreOf, OperandsOf};
 
-use crate::token::{Token, next_token};
+use crate::token::{Rest, Token};
 
 #[derive(Clone, Copy, PartialEq, Eq, Debug)]
 pub enum Operand<'a> {
@@ -103,13 +103,13 @@ fn operand_of<'a>(token: Token<'a>) -> Option<Operand<'a>>
 }
 
 // The operand behind a comma and what follows it, or nothing at the end of the line.
-fn more_of<'a>(bytes: &'a [u8], line: u32) -> Option<Option<(Operand<'a>, &'a [u8])>>
-    ensures { MoreOf bytes.now result }
+fn more_of<'a>(rest: Rest<'a>) -> Option<Option<(Operand<'a>, Rest<'a>)>>
+    ensures { MoreOf rest.entry.bytes.now result }
 {
-    let (token, rest) = next_token(bytes, line)?;
+    let (token, rest) = rest.next_token()?;
     match token {
         Token::Comma { .. } => {
-            let (second, rest) = next_token(rest, line)?;
+            let (second, rest) = rest.next_token()?;
             Some(Some((operand_of(second)?, rest)))
         }
         Token::End { .. } => Some(None),
@@ -118,21 +118,21 @@ fn more_of<'a>(bytes: &'a [u8], line: u32) -> Option<Option<(Operand<'a>, &'a [u
 }
 
 // The operands that are left of a line, parted by commas; at most three.
-pub(crate) fn operands_of<'a>(bytes: &'a [u8], line: u32) -> Option<Operands<'a>>
-    ensures { OperandsOf bytes.now result }
+pub(crate) fn operands_of<'a>(rest: Rest<'a>) -> Option<Operands<'a>>
+    ensures { OperandsOf rest.entry.bytes.now result }
 {
-    let (first, rest) = next_token(bytes, line)?;
+    let (first, rest) = rest.next_token()?;
     if let Token::End { .. } = first {
         return Some(Operands::Zero);
     }
     let a = operand_of(first)?;
-    let Some((b, rest)) = more_of(rest, line)? else {
+    let Some((b, rest)) = more_of(rest)? else {
         return Some(Operands::One(a));
     };
-    let Some((c, rest)) = more_of(rest, line)? else {
+    let Some((c, rest)) = more_of(rest)? else {
         return Some(Operands::Two(a, b));
     };
-    match more_of(rest, line)? {
+    match more_of(rest)? {
         None => Some(Operands::Three(a, b, c)),
         Some(_) => None,
     }
