@@ -4,6 +4,12 @@ ghost use Rattle.grammar.specs.Grammar.{ReadsOn, NotNumber, NumberUpTo, OperandO
 
 use crate::token::{Rest, Token};
 
+// The largest number.
+const NUMBER_MAX: u32 = 65535;
+
+// The last register.
+const REGISTER_MAX: u32 = 31;
+
 #[derive(Clone, Copy, PartialEq, Eq, Debug)]
 pub enum Operand<'a> {
     Register(u32),
@@ -20,30 +26,6 @@ pub enum Operands<'a> {
     Three(Operand<'a>, Operand<'a>, Operand<'a>),
 }
 
-// Whether a number may be so large.
-fn is_small(n: u32) -> bool
-    ensures { result ≡ nat_le n 65535 }
-{
-    n <= 65535
-}
-
-// Whether there is a register of this number.
-fn is_register_number(n: u32) -> bool
-    ensures { result ≡ nat_le n 31 }
-{
-    n <= 31
-}
-
-// Whether the digits have a zero in front that they do not need.
-fn is_padded(digits: &[u8]) -> bool
-    ensures { Decides result ((1 < length digits.now) × (slice_index digits.now 0 ≡ 48)) }
-{
-    match digits {
-        [b'0', _, ..] => true,
-        _ => false,
-    }
-}
-
 // What the digits write behind those of `front`, or none where it passes 65535.
 fn number_on(front: u32, digits: &[u8]) -> Option<u32>
     requires { front ≤ 65535 }
@@ -51,30 +33,26 @@ fn number_on(front: u32, digits: &[u8]) -> Option<u32>
 {
     match digits {
         [] => Some(front),
-        [first, rest @ ..] => {
-            if *first < b'0' || *first > b'9' {
-                return None;
-            }
+        [first @ b'0'..=b'9', rest @ ..] => {
             let value = front * 10 + u32::from(*first - b'0');
-            if !is_small(value) {
+            if value > NUMBER_MAX {
                 return None;
             }
             number_on(value, rest)
         }
+        _ => None,
     }
 }
 
-// The decimal number of at most 65535 with just these digits.
+// The decimal number of at most 65535 with just these digits, none of them a needless zero.
 fn number_of(digits: &[u8]) -> Option<u32>
     ensures { MatchOption result (NotNumber 65535 digits.now) (λ v. NumberUpTo 65535 digits.now v) }
 {
-    if digits.len() == 0 {
-        return None;
+    match digits {
+        [] => None,
+        [b'0', _, ..] => None,
+        _ => number_on(0, digits),
     }
-    if is_padded(digits) {
-        return None;
-    }
-    number_on(0, digits)
 }
 
 // The register with this name: a dollar sign and a number of at most 31.
@@ -84,7 +62,7 @@ fn register_of(text: &[u8]) -> Option<u32>
     match text {
         [b'$', digits @ ..] => {
             let n = number_of(digits)?;
-            if is_register_number(n) { Some(n) } else { None }
+            (n <= REGISTER_MAX).then_some(n)
         }
         _ => None,
     }

@@ -62,12 +62,14 @@ pub(crate) fn class_of(b: u8) -> Class
 fn goes_on(run: Run, b: u8) -> bool
     ensures { result ≡ goes_on run b }
 {
-    match (run, class_of(b)) {
-        (Run::Line, _) => b != b'\n',
-        (Run::Spaces, Class::Space) => true,
-        (Run::Name, Class::Letter | Class::Digit | Class::Underscore) => true,
-        (Run::Digits, Class::Digit) => true,
-        _ => false,
+    match run {
+        Run::Spaces => class_of(b) == Class::Space,
+        Run::Name => matches!(
+            class_of(b),
+            Class::Letter | Class::Digit | Class::Underscore
+        ),
+        Run::Digits => class_of(b) == Class::Digit,
+        Run::Line => b != b'\n',
     }
 }
 
@@ -106,10 +108,10 @@ impl<'a> Rest<'a> {
         ensures rest_line { IfSome result (λ p. p.1.line ≡ self.entry.line) }
     {
         let Rest { bytes, line } = self;
-        if bytes.len() == 0 {
+        let [first, behind @ ..] = bytes else {
             return Some((Token::End { line }, self));
-        }
-        match class_of(bytes[0]) {
+        };
+        match class_of(*first) {
             Class::Letter => {
                 let (text, rest) = self.split_at(run_len(bytes, Run::Name));
                 (text.len() <= NAME_MAX).then_some((Token::Name { text, line }, rest))
@@ -119,7 +121,7 @@ impl<'a> Rest<'a> {
                 Some((Token::Number { text, line }, rest))
             }
             Class::Dollar => {
-                let (text, rest) = self.split_at(1 + run_len(&bytes[1..], Run::Digits));
+                let (text, rest) = self.split_at(1 + run_len(behind, Run::Digits));
                 Some((Token::Register { text, line }, rest))
             }
             Class::Comma => Some((Token::Comma { line }, self.split_at(1).1)),

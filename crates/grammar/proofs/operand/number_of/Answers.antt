@@ -1,14 +1,12 @@
-use Rattle.std.proofs.Common.{rules}
-use Rattle.std.proofs.lemmas.Bool.{both_ways}
+use Rattle.std.proofs.Common.{rules, arith}
 use Rattle.grammar.proofs.Numbers.{none_empty, none_padded, by_digits}
 use Rattle.grammar.proofs.operand.number_of.Goals as goal
 
-pub returns-then-digits-eq0 : goal.returns-then-digits-eq0
-returns-then-digits-eq0 c = none_empty c.args.digits.now (search rules)
+pub returns-in-empty : goal.returns-in-empty
+returns-in-empty c = none_empty c.args.digits.now (search rules)
 
-pub returns-then-is_padded : goal.returns-then-is_padded
-returns-then-is_padded c = let padded = c.is_padded.ensures.0 c.if-is_padded.true in none_padded c.args.digits.now padded.0 padded.1
+pub returns-in-48 : goal.returns-in-48
+returns-in-48 c = none_padded c.args.digits.now (search rules) (search rules)
 
-pub returns : goal.returns
-returns c =
-    by_digits c.args.digits.now c.number_on.result (search rules) (λ p. both_ways _ c.if-is_padded.false (c.is_padded.ensures.1 p)) c.number_on.ensures
+pub returns-in_default : goal.returns-in_default
+returns-in_default c = by_digits c.args.digits.now c.number_on.result (search rules) (λ p. search rules) c.number_on.ensures
