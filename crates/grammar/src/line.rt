@@ -27,10 +27,9 @@ fn label_of<'a>(whole: Rest<'a>) -> Option<(&'a [u8], Rest<'a>)>
 fn code_from<'a>(rest: Rest<'a>) -> Option<Option<Instruction<'a>>>
     ensures { CodeFrom rest.entry.bytes.now result }
 {
-    let (first, rest) = rest.next_token()?;
-    match first {
-        Token::End { .. } => Some(None),
-        Token::Name { text, .. } => Some(Some(code_at(text, rest)?)),
+    match rest.next_token()? {
+        (Token::End { .. }, _) => Some(None),
+        (Token::Name { text, .. }, rest) => Some(Some(code_at(text, rest)?)),
         _ => None,
     }
 }

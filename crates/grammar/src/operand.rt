@@ -84,13 +84,12 @@ fn operand_of<'a>(token: Token<'a>) -> Option<Operand<'a>>
 fn more_of<'a>(rest: Rest<'a>) -> Option<Option<(Operand<'a>, Rest<'a>)>>
     ensures { MoreOf rest.entry.bytes.now result }
 {
-    let (token, rest) = rest.next_token()?;
-    match token {
-        Token::Comma { .. } => {
+    match rest.next_token()? {
+        (Token::Comma { .. }, rest) => {
             let (second, rest) = rest.next_token()?;
             Some(Some((operand_of(second)?, rest)))
         }
-        Token::End { .. } => Some(None),
+        (Token::End { .. }, _) => Some(None),
         _ => None,
     }
 }
@@ -100,7 +99,7 @@ pub(crate) fn operands_of<'a>(rest: Rest<'a>) -> Option<Operands<'a>>
     ensures { OperandsOf rest.entry.bytes.now result }
 {
     let (first, rest) = rest.next_token()?;
-    if let Token::End { .. } = first {
+    if matches!(first, Token::End { .. }) {
         return Some(Operands::Zero);
     }
     let a = operand_of(first)?;

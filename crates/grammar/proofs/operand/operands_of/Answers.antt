@@ -1,4 +1,4 @@
-use Rattle.std.proofs.Common.{None}
+use Rattle.std.proofs.Common.{rules, None}
 use Rattle.grammar.proofs.Lists.{lexed, not_seen, more_at, shut_none, shut_odd, shut_one, shut_two, shut_three, shut_four, three}
 use Rattle.grammar.proofs.operand.operands_of.Goals as goal
 
@@ -9,7 +9,7 @@ pub returns-in_err-a : goal.returns-in_err-a
 returns-in_err-a c =
     let first = c.in_ok-first in
     rw c.from_residual-in_err-a.ensures
-    (shut_odd c.args.rest.bytes.now first.first first.rest.bytes.now first.ensures.fronts (not_seen first.first None c.in_default.not-End) c.in_err-a.ensures)
+    (shut_odd c.args.rest.bytes.now first.first first.rest.bytes.now first.ensures.fronts (not_seen first.first None (λ x e. search rules)) c.in_err-a.ensures)
 
 pub returns-in_err-b : goal.returns-in_err-b
 returns-in_err-b c =
