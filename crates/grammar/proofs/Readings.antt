@@ -6,7 +6,8 @@ use Rattle.grammar.specs.declared.instruction.Unary.TheVariants.{Floor, Abs, Sqr
 use Rattle.grammar.specs.declared.instruction.Mnemonic.{Mnemonic}
 use Rattle.grammar.specs.declared.instruction.Mnemonic.TheVariants as mnemonic
 use Rattle.grammar.specs.declared.instruction.Instruction.{Instruction}
-use Rattle.grammar.specs.Tokens.{Tok, name, colon, Next, Ends, NoToken, Spelled}
+use Rattle.grammar.specs.declared.token.Token.{Token}
+use Rattle.grammar.specs.Tokens.{Tok, name, colon, Next, Ends, NoToken, Spelled, seen, Lexes}
 use Rattle.grammar.specs.Grammar.{Opd, reg, num, lab, InRange, token, tailed, listed}
 use Rattle.grammar.specs.Forms.{spelling, Ins, binary, unary, cmov, bltz, setx, loop, done, nop, mnemonic_of, operands_of, Formed, FormedBy, Written, CodeAt}
 use Rattle.grammar.specs.Lines.{code_tokens, Says}
@@ -128,6 +129,22 @@ module _ (bs : List ℕ) where
   pub unlabelled_none : ((n mid rest : List ℕ) → Next bs (name n) mid → Next mid colon rest → ⊥) → ((code : Option Ins) → Says bs None code → ⊥) → (label : Option (List ℕ)) (code : Option Ins) → Says bs label code → ⊥
   unlabelled_none p h None code s = h code s
   unlabelled_none p h (Some n) code s = let t = s.spelled in p n t.0 t.2.0 t.1 t.2.1
+
+-- no name with a colon is at the front
+module _ (bs : List ℕ) where
+  pub unlabelled : NoToken bs → (n mid rest : List ℕ) → Next bs (name n) mid → Next mid colon rest → ⊥
+  unlabelled h n mid rest p q = h.none (name n) mid p
+
+  module _ (t : Token) (r : List ℕ) (first : Lexes bs t r) where
+    pub unlabelled_first : ((n : List ℕ) → seen t ≡ Some (name n) → ⊥) → (n mid rest : List ℕ) → Next bs (name n) mid → Next mid colon rest → ⊥
+    unlabelled_first h n mid rest p q = h n (read_next bs (seen t) r first (name n) mid p).0
+
+    pub unlabelled_end : NoToken r → (n mid rest : List ℕ) → Next bs (name n) mid → Next mid colon rest → ⊥
+    unlabelled_end h n mid rest p q = h.none colon rest (subst (λ l. Next l colon rest) (read_next bs (seen t) r first (name n) mid p).1 q)
+
+    pub unlabelled_second : (u : Token) (s : List ℕ) → Lexes r u s → (seen u ≡ Some colon → ⊥) → (n mid rest : List ℕ) → Next bs (name n) mid → Next mid colon rest → ⊥
+    unlabelled_second u s second h n mid rest p q =
+        h (read_next r (seen u) s second colon rest (subst (λ l. Next l colon rest) (read_next bs (seen t) r first (name n) mid p).1 q)).0
 
 module _ (bs : List ℕ) where
   pub code_none : NoToken bs → (code : Option Ins) → Says bs None code → ⊥

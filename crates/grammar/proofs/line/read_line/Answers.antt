@@ -1,3 +1,4 @@
+use Rattle.std.proofs.Common.{rules}
 use Rattle.grammar.proofs.Readings.{labelled_none, unlabelled_none}
 use Rattle.grammar.proofs.line.read_line.Goals as goal
 
@@ -8,4 +9,4 @@ returns-in_err-code_from-in-Some-clause-reading c =
 
 pub returns-in_err-code_from-in-None-clause-reading : goal.returns-in_err-code_from-in-None-clause-reading
 returns-in_err-code_from-in-None-clause-reading c =
-    rw c.from_residual-in_err-code_from-in-None.ensures (unlabelled_none c.args.bytes.now c.in-None.ensures c.in_err-code_from-in-None.ensures)
+    rw c.from_residual-in_err-code_from-in-None.ensures (search (rules, unlabelled_none))

@@ -1,21 +1,15 @@
-use Rattle.std.proofs.Common.{rules, None}
+use Rattle.std.proofs.Common.{rules}
 use Rattle.grammar.proofs.Lists.{lexed, not_seen, more_at, shut_none, shut_odd, shut_one, shut_two, shut_three, shut_four, three}
 use Rattle.grammar.proofs.operand.operands_of.Goals as goal
 
 pub returns-in_err-first : goal.returns-in_err-first
-returns-in_err-first c = rw c.from_residual.ensures (shut_none c.args.rest.bytes.now c.in_err-first.ensures.fronts)
+returns-in_err-first c = rw c.from_residual.ensures (search (rules, shut_none))
 
 pub returns-in_err-a : goal.returns-in_err-a
-returns-in_err-a c =
-    let first = c.in_ok-first in
-    rw c.from_residual-in_err-a.ensures
-    (shut_odd c.args.rest.bytes.now first.first first.rest.bytes.now first.ensures.fronts (not_seen first.first None (λ x e. search rules)) c.in_err-a.ensures)
+returns-in_err-a c = rw c.from_residual-in_err-a.ensures (search (rules, shut_odd, not_seen))
 
 pub returns-in_err-b : goal.returns-in_err-b
-returns-in_err-b c =
-    let first = c.in_ok-first in
-    let a = lexed c.args.rest.bytes.now first.first first.rest.bytes.now _ first.ensures.fronts c.in_ok-a.ensures.1 in
-    rw c.from_residual-in_err-b.ensures (shut_one a c.in_err-b.ensures)
+returns-in_err-b c = rw c.from_residual-in_err-b.ensures (search (rules, shut_one, lexed))
 
 pub returns-in_err-c : goal.returns-in_err-c
 returns-in_err-c c =
