@@ -1,12 +1,11 @@
 -- The first token of a line: found by runs of bytes, and the only one.
-use Rattle.std.proofs.Common.{◌≡◌, ℕ, suc, ◌+◌, ◌<◌, ◌≤◌, Bool, true, false, ◌⊎◌, List, [], ◌∷◌, ◌++◌, length, get_or, take, drop, Some, None, Option, sym, refl, ap, ◌∙◌, inl, inr, append_assoc, one-add, arith, length-append, length-drop, take-append-drop, Bor, nat_le}
+use Rattle.std.proofs.Common.{◌≡◌, ℕ, suc, ◌+◌, ◌<◌, ◌≤◌, Bool, true, false, ◌⊎◌, List, [], ◌∷◌, ◌++◌, length, get_or, take, drop, Some, None, Option, sym, refl, ap, ◌∙◌, inl, inr, append_assoc, one-add, arith, length-append, length-drop, take-append-drop, Bor}
 use Rattle.std.specs.List.{prefix_len}
 use Rattle.std.proofs.ByRecursion.{All-append, All-get_or}
 use Rattle.std.proofs.lemmas.List.{get_or_append_left, get_or-take, length-take-le, take_at, drop-drop}
 use Rattle.std.proofs.lemmas.List.Sums.{prefix_len-drop_yes, prefix_len-le-length}
 use Rattle.std.proofs.lemmas.Bool.Decides.{nat_tests}
-use Rattle.std.proofs.lemmas.Bool.{both_ways, cases_Bool, leb-true, leb-false}
-use Rattle.std.specs.Bool.{then_some}
+use Rattle.std.proofs.lemmas.Bool.{both_ways, cases_Bool}
 use Rattle.grammar.specs.Bytes.{class_of, goes_on, blank, wordy, numeric}
 use Rattle.grammar.specs.declared.token.Class.{Class}
 use Rattle.grammar.specs.declared.token.Class.TheVariants.{Letter, Digit, Underscore, Dollar, Comma, Colon, Semicolon, Space, Other}
@@ -259,15 +258,6 @@ name_too_long bs n e o long =
       none = λ t r h. omega (arith, rw f at (next_short bs t r h p));
       goes = λ h. let c : Letter ≡ Semicolon = ends_opens Letter bs h p in grind arith;
     }
-
--- a run at the front is a name where it is short enough
-pub name_or_none : (bs : List ℕ) (n : ℕ) (text : Bor (List ℕ)) (line : ℕ) (rest : Rest) → n ≡ prefix_len (goes_on Name) bs → Opens Letter bs → text.now ≡ take n bs → rest.bytes.now ≡ drop n bs → Fronts bs (then_some (nat_le (length text.now) 16) (token.Name text line, rest))
-name_or_none bs n text line rest e o t r =
-    let size : length (take n bs) ≡ n = length-take-le n bs (omega (arith, prefix_len-le-length (goes_on Name) bs)) in
-    elim (cases_Bool (nat_le (length text.now) 16)) [
-      | inl short ↦ rw short (rw (t, r) (next_name bs n e o (omega (arith, ap length t, leb-true _ _ short))))
-      | inr long ↦ rw long (name_too_long bs n e o (omega (arith, ap length t, leb-false _ _ long)))
-    ]
 
 -- bytes that begin neither a token nor a comment
 pub no_token : (bs : List ℕ) (c : Class) → Stops Spaces bs → Opens c bs → (c ≡ Underscore) ⊎ ((c ≡ Space) ⊎ (c ≡ Other)) → NoToken bs

@@ -37,6 +37,9 @@ by_digits ds (Some v) some f h =
     let le = h.2 in
     (le, sym (decimal-digits_value own ds h.0 some (λ e. alone_from ds some (λ more. f (more, e))) (omega (arith, h.1))) ∙ ap decimal (sym h.1))
 
+-- what a test of the digits says of numbers
+pub ruleset numerals = (none_empty, none_padded, by_digits)
+
 -- a number has one text, and a text one number
 pub same_number : (v w : ℕ) → v ≤ 65535 → w ≤ 65535 → decimal v ≡ decimal w → v ≡ w
 same_number v w p q e = decimal_injective v w (wide v p) (wide w q) e

@@ -45,6 +45,7 @@ fn number_on(front: u32, digits: &[u8]) -> Option<u32>
 }
 
 // The decimal number of at most 65535 with just these digits, none of them a needless zero.
+#[tactic(auto, using(crate::proofs::Numbers::numerals))]
 fn number_of(digits: &[u8]) -> Option<u32>
     ensures { MatchOption result (NotNumber 65535 digits.now) (λ v. NumberUpTo 65535 digits.now v) }
 {
@@ -56,6 +57,7 @@ fn number_of(digits: &[u8]) -> Option<u32>
 }
 
 // The register with this name: a dollar sign and a number of at most 31.
+#[tactic(auto, using(crate::proofs::Numbers::register_or_none))]
 fn register_of(text: &[u8]) -> Option<u32>
     ensures { MatchOption result ((v : ℕ) → v ≤ 31 → text.now ≢ 36 ∷ decimal v) (λ v. (v ≤ 31) × (text.now ≡ 36 ∷ decimal v)) }
 {

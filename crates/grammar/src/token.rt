@@ -93,6 +93,7 @@ impl<'a> Rest<'a> {
     fn split_at(self, n: usize) -> (&'a [u8], Rest<'a>)
         requires { n ≤ length self.bytes.now }
         ensures text { result.0.now ≡ take n self.entry.bytes.now }
+        ensures text_len { length result.0.now ≡ n }
         ensures rest { result.1.bytes.now ≡ drop n self.entry.bytes.now }
         ensures line { result.1.line ≡ self.entry.line }
     {
@@ -114,7 +115,10 @@ impl<'a> Rest<'a> {
         match class_of(*first) {
             Class::Letter => {
                 let (text, rest) = self.split_at(run_len(bytes, Run::Name));
-                (text.len() <= NAME_MAX).then_some((Token::Name { text, line }, rest))
+                if text.len() > NAME_MAX {
+                    return None;
+                }
+                Some((Token::Name { text, line }, rest))
             }
             Class::Digit => {
                 let (text, rest) = self.split_at(run_len(bytes, Run::Digits));

@@ -1,12 +1,15 @@
-use Rattle.std.proofs.Common.{rules}
+use Rattle.std.proofs.Common.{rules, arith}
 use Rattle.std.proofs.lemmas.List.{take_rest}
-use Rattle.grammar.proofs.Fronts.{name_or_none, next_number, next_register, no_token}
+use Rattle.grammar.proofs.Fronts.{next_name, name_too_long, next_number, next_register, no_token}
 use Rattle.grammar.proofs.token.Rest.front_token.Goals as goal
 
-pub returns-in-Letter-clause-fronts : goal.returns-in-Letter-clause-fronts
-returns-in-Letter-clause-fronts c =
+pub returns-then-text-gt-NAME_MAX-clause-fronts : goal.returns-then-text-gt-NAME_MAX-clause-fronts
+returns-then-text-gt-NAME_MAX-clause-fronts c = name_too_long c.args.self.bytes.now c.run_len.result c.run_len.ensures.value (search rules) (omega arith)
+
+pub returns-else-text-gt-NAME_MAX-clause-fronts : goal.returns-else-text-gt-NAME_MAX-clause-fronts
+returns-else-text-gt-NAME_MAX-clause-fronts c =
     let h = c.split_at.ensures in
-    rw c.then_some.ensures (name_or_none c.args.self.bytes.now c.run_len.result _ _ _ c.run_len.ensures.value (search rules) h.text h.rest)
+    rw (h.text, h.rest) (next_name c.args.self.bytes.now c.run_len.result c.run_len.ensures.value (search rules) (omega arith))
 
 pub returns-in-Digit-clause-fronts : goal.returns-in-Digit-clause-fronts
 returns-in-Digit-clause-fronts c =
