@@ -1,5 +1,5 @@
 -- The first token of a line: found by runs of bytes, and the only one.
-use Rattle.std.proofs.Common.{◌≡◌, ℕ, suc, ◌+◌, ◌<◌, ◌≤◌, Bool, true, false, ◌⊎◌, List, [], ◌∷◌, ◌++◌, length, get_or, take, drop, Some, None, Option, sym, refl, ap, ◌∙◌, inl, inr, append_assoc, one-add, arith, length-append, length-drop, take-append-drop, Bor}
+use Rattle.std.proofs.Common.{◌≡◌, ℕ, suc, ◌+◌, ◌<◌, ◌≤◌, Bool, true, false, ◌⊎◌, List, [], ◌∷◌, ◌++◌, length, get_or, take, drop, Some, None, Option, sym, refl, ap, ◌∙◌, inl, inr, append_assoc, one-add, arith, length-append, length-drop, take-append-drop}
 use Rattle.std.specs.List.{prefix_len}
 use Rattle.std.proofs.ByRecursion.{All-append, All-get_or}
 use Rattle.std.proofs.lemmas.List.{get_or_append_left, get_or-take, length-take-le, take_at, drop-drop}
@@ -231,12 +231,6 @@ module _ (bs : List ℕ) (n : ℕ) where
       let k = runs_leading Digits (drop 1 bs) in
       let h : take (1 + n) bs ≡ 36 ∷ take n (drop 1 bs) = rw (one-add, first_is Dollar 36 (λ b q. grind (arith, nat_tests)) bs o) in
       next_made (1 + n) bs (register (take (1 + n) bs)) (refl, (take n (drop 1 bs), h, rw e k.0)) (rw (← drop-drop n 1 bs, e) k.1)
-
-pub next_comma : (bs : List ℕ) → Opens Comma bs → Next bs comma (drop 1 bs)
-next_comma bs o = next_made 1 bs comma (rw (first_is Comma 44 (λ b q. grind (arith, nat_tests)) bs o)) tt
-
-pub next_colon : (bs : List ℕ) → Opens Colon bs → Next bs colon (drop 1 bs)
-next_colon bs o = next_made 1 bs colon (rw (first_is Colon 58 (λ b q. grind (arith, nat_tests)) bs o)) tt
 
 -- no spaces are at the front
 front_same : (bs : List ℕ) → Stops Spaces bs → front bs ≡ bs

@@ -165,9 +165,6 @@ module _ (bs : List ℕ) where
       let named : n ≡ spelling (mnemonic_of i) = let e = same.0 in cc in
       h i (record { formed = s.formed; named = named; operands = subst (λ l. Spelled l (listed (operands_of i))) (sym same.1) t.2 })
 
-  pub code_named : (n rest : List ℕ) (i : Ins) → Next bs (name n) rest → Written n rest i → Says bs None (Some i)
-  code_named n rest i p w = record { formed = w.formed; spelled = (rest, subst (λ m. Next bs (name m) rest) w.named p, w.operands) }
-
 -- an instruction from its name and its operands
 abbrev made_of : Mnemonic → List Opd → Ins
 made_of (mnemonic.Binary op) os = binary op (get_or os 0 (reg 0)) (get_or os 1 (reg 0)) (get_or os 2 (reg 0))

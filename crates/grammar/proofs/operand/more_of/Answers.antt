@@ -1,5 +1,4 @@
-use Rattle.std.proofs.Common.{rules, Some, None, ap}
-use Rattle.grammar.specs.Tokens.{comma, seen}
+use Rattle.std.proofs.Common.{rules}
 use Rattle.grammar.proofs.Lists.{lexed, more_none, more_cut, more_odd, more_other, not_seen}
 use Rattle.grammar.proofs.operand.more_of.Goals as goal
 
