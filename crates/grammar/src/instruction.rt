@@ -75,7 +75,7 @@ fn mnemonic_of(name: &[u8]) -> Option<Mnemonic>
 }
 
 // The instruction of a name with these operands.
-fn formed<'a>(m: Mnemonic, list: Operands<'a>) -> Option<Instruction<'a>>
+fn formed(m: Mnemonic, list: Operands<'_>) -> Option<Instruction<'_>>
     ensures { FormedBy m (opds list.entry) result }
 {
     match (m, list) {
@@ -97,7 +97,7 @@ fn formed<'a>(m: Mnemonic, list: Operands<'a>) -> Option<Instruction<'a>>
 }
 
 // The instruction that a name and the rest of its line write.
-pub(crate) fn code_at<'a>(name: &'a [u8], rest: Rest<'a>) -> Option<Instruction<'a>>
+pub(crate) fn code_at<'a>(name: &[u8], rest: Rest<'a>) -> Option<Instruction<'a>>
     ensures { CodeAt name.now rest.entry.bytes.now result }
 {
     let m = mnemonic_of(name)?;

@@ -11,7 +11,7 @@ pub struct Line<'a> {
 }
 
 // The label that begins a line and what follows its colon, if there is one.
-fn label_of<'a>(whole: Rest<'a>) -> Option<(&'a [u8], Rest<'a>)>
+fn label_of(whole: Rest<'_>) -> Option<(&[u8], Rest<'_>)>
     ensures { LabelOf whole.entry.bytes.now result }
 {
     let (Token::Name { text, .. }, rest) = whole.next_token()? else {
@@ -24,7 +24,7 @@ fn label_of<'a>(whole: Rest<'a>) -> Option<(&'a [u8], Rest<'a>)>
 }
 
 // The instruction that the bytes write, nothing where they are blank.
-fn code_from<'a>(rest: Rest<'a>) -> Option<Option<Instruction<'a>>>
+fn code_from(rest: Rest<'_>) -> Option<Option<Instruction<'_>>>
     ensures { CodeFrom rest.entry.bytes.now result }
 {
     match rest.next_token()? {
@@ -36,7 +36,7 @@ fn code_from<'a>(rest: Rest<'a>) -> Option<Option<Instruction<'a>>>
 
 // What a line says, or none where it is outside the grammar.
 #[tactic(auto, using(crate::proofs::Readings::says_one))]
-pub fn read_line<'a>(bytes: &'a [u8], line: u32) -> Option<Line<'a>>
+pub fn read_line(bytes: &[u8], line: u32) -> Option<Line<'_>>
     ensures reading { Reading bytes.now result }
     ensures alone { OneReading bytes.now }
 {

@@ -1,5 +1,5 @@
 // Operands: registers, numbers and labels, each from one token.
-ghost use Rattle.std.specs.Prelude.{◌≡◌, ℕ, ◌<◌, ◌≤◌, ◌∷◌, length, decimal, Decides, MatchOption, ◌≢◌, nat_le, slice_index};
+ghost use Rattle.std.specs.Prelude.{◌≡◌, ℕ, ◌≤◌, ◌∷◌, decimal, MatchOption, ◌≢◌};
 ghost use Rattle.grammar.specs.Grammar.{ReadsOn, NotNumber, NumberUpTo, OperandOf, MoreOf, OperandsOf};
 
 use crate::token::{Rest, Token};
@@ -71,7 +71,7 @@ fn register_of(text: &[u8]) -> Option<u32>
 }
 
 // The operand that a token is.
-fn operand_of<'a>(token: Token<'a>) -> Option<Operand<'a>>
+fn operand_of(token: Token<'_>) -> Option<Operand<'_>>
     ensures { OperandOf token.entry result }
 {
     match token {
@@ -83,7 +83,7 @@ fn operand_of<'a>(token: Token<'a>) -> Option<Operand<'a>>
 }
 
 // The operand behind a comma and what follows it, or nothing at the end of the line.
-fn more_of<'a>(rest: Rest<'a>) -> Option<Option<(Operand<'a>, Rest<'a>)>>
+fn more_of(rest: Rest<'_>) -> Option<Option<(Operand<'_>, Rest<'_>)>>
     ensures { MoreOf rest.entry.bytes.now result }
 {
     match rest.next_token()? {
@@ -97,7 +97,7 @@ fn more_of<'a>(rest: Rest<'a>) -> Option<Option<(Operand<'a>, Rest<'a>)>>
 }
 
 // The operands that are left of a line, parted by commas; at most three.
-pub(crate) fn operands_of<'a>(rest: Rest<'a>) -> Option<Operands<'a>>
+pub(crate) fn operands_of(rest: Rest<'_>) -> Option<Operands<'_>>
     ensures { OperandsOf rest.entry.bytes.now result }
 {
     let (first, rest) = rest.next_token()?;
