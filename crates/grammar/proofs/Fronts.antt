@@ -1,5 +1,5 @@
 -- The first token of a line: found by runs of bytes, and the only one.
-use Rattle.std.proofs.Common.{◌≡◌, ℕ, suc, ◌+◌, ◌<◌, ◌≤◌, Bool, true, false, ◌⊎◌, List, [], ◌∷◌, ◌++◌, length, get_or, take, drop, Some, None, Option, sym, refl, ap, ◌∙◌, inl, inr, append_assoc, one-add, arith, length-append, length-drop, take-append-drop}
+use Rattle.std.proofs.Common.{◌≡◌, ℕ, suc, ◌+◌, ◌<◌, ◌≤◌, Bool, true, false, ◌⊎◌, List, [], ◌∷◌, ◌++◌, length, get_or, take, drop, Some, None, Option, sym, refl, ap, ◌∙◌, inl, inr, append_assoc, one-add, arith, length-append, length-drop, take-append-drop, MatchOption}
 use Rattle.std.specs.List.{prefix_len}
 use Rattle.std.proofs.ByRecursion.{All-append, All-get_or}
 use Rattle.std.proofs.lemmas.List.{get_or_append_left, get_or-take, length-take-le, take_at, drop-drop}
@@ -13,8 +13,7 @@ use Rattle.grammar.specs.declared.token.Run.{Run}
 use Rattle.grammar.specs.declared.token.Run.TheVariants.{Spaces, Name, Digits}
 use Rattle.grammar.specs.declared.token.Rest.{Rest}
 use Rattle.grammar.specs.declared.token.Token.{Token}
-use Rattle.grammar.specs.declared.token.Token.TheVariants as token
-use Rattle.grammar.specs.Tokens.{Tok, name, number, register, comma, colon, Runs, Stops, Spells, Parted, Next, Silent, Ends, Spelled, Lexes, NoToken, Fronts, Opens}
+use Rattle.grammar.specs.Tokens.{Tok, name, number, register, comma, colon, Runs, Stops, Spells, Parted, Next, Silent, Ends, Spelled, seen, NoToken, Fronts, Opens}
 
 -- the bytes that `leading` counts, and what is behind them
 pub runs_leading : (run : Run) (bs : List ℕ) → Runs run (take (prefix_len (goes_on run) bs) bs) × Stops run (drop (prefix_len (goes_on run) bs) bs)
@@ -299,14 +298,10 @@ module _ (bs : List ℕ) where
         goes = λ k. h.goes (record { gap = []; rest = k.rest; whole = ends_front bs k; spaces = tt; silent = k.silent });
       }
 
-  lexes_behind : (t : Token) (r : List ℕ) → Lexes (front bs) t r → Lexes bs t r
-  lexes_behind (token.Name text line) r h = next_behind _ r h
-  lexes_behind (token.Number text line) r h = next_behind _ r h
-  lexes_behind (token.Register text line) r h = next_behind _ r h
-  lexes_behind (token.Comma line) r h = next_behind _ r h
-  lexes_behind (token.Colon line) r h = next_behind _ r h
-  lexes_behind (token.End line) r h = ends_behind h
+  lexes_behind : (o : Option Tok) (r : List ℕ) → MatchOption o (Ends (front bs)) (λ u. Next (front bs) u r) → MatchOption o (Ends bs) (λ u. Next bs u r)
+  lexes_behind None r h = ends_behind h
+  lexes_behind (Some u) r h = next_behind u r h
 
   pub fronts_behind : (o : Option (Token × Rest)) → Fronts (front bs) o → Fronts bs o
   fronts_behind None h = none_behind h
-  fronts_behind (Some p) h = lexes_behind p.0 _ h
+  fronts_behind (Some p) h = lexes_behind (seen p.0) _ h

@@ -7,7 +7,7 @@ use Rattle.grammar.specs.declared.instruction.Mnemonic.{Mnemonic}
 use Rattle.grammar.specs.declared.instruction.Mnemonic.TheVariants as mnemonic
 use Rattle.grammar.specs.declared.instruction.Instruction.{Instruction}
 use Rattle.grammar.specs.declared.token.Token.{Token}
-use Rattle.grammar.specs.Tokens.{Tok, name, colon, Next, Ends, NoToken, Spelled, seen, Lexes}
+use Rattle.grammar.specs.Tokens.{Tok, name, comma, colon, Next, Ends, NoToken, Spelled, seen, Lexes}
 use Rattle.grammar.specs.Grammar.{Opd, reg, num, lab, InRange, token, tailed, listed}
 use Rattle.grammar.specs.Forms.{spelling, Ins, binary, unary, cmov, bltz, setx, loop, done, nop, mnemonic_of, operands_of, Formed, FormedBy, Written, CodeAt}
 use Rattle.grammar.specs.Lines.{code_tokens, Says}
@@ -83,12 +83,7 @@ pub listed_one : (os ps : List Opd) → AllByRecursion InRange os → AllByRecur
 listed_one [] [] q r e = refl
 listed_one [] (p ∷ ps) q r e = cc
 listed_one (o ∷ os) [] q r e = cc
-listed_one (o ∷ os) (p ∷ ps) q r e =
-    let t : token o ≡ token p = cc in
-    let more : tailed os ≡ tailed ps = cc in
-    let head = token_one o p q.0 r.0 t in
-    let tail = tailed_one os ps q.1 r.1 more in
-    cc
+listed_one (o ∷ os) (p ∷ ps) q r e = tailed_one (o ∷ os) (p ∷ ps) q r (ap (λ ts. comma ∷ ts) e)
 
 -- an instruction has one name and one list of operands, and these are of no other
 pub code_read : (n rest : List ℕ) (m : Mnemonic) (os : List Opd) (r : Option Instruction) → n ≡ spelling m → AllByRecursion InRange os → Spelled rest (listed os) → FormedBy m os r → CodeAt n rest r
@@ -106,9 +101,9 @@ second_colon bs mid rest n None p q s = next_or_end bs (name n) mid p s
 second_colon bs mid rest n (Some i) p q s = behind (operands_of i) (subst (λ l. Spelled l (listed (operands_of i))) (next_one bs _ (name n) s.0 mid s.1 p).1 s.2)
   where
     apart : (o : Opd) → token o ≡ colon → ⊥
-    apart (reg v) e = let z : ◌≡◌ {A = ℕ} 0 1 = cc in omega arith
-    apart (num v) e = let z : ◌≡◌ {A = ℕ} 0 1 = cc in omega arith
-    apart (lab m) e = let z : ◌≡◌ {A = ℕ} 0 1 = cc in omega arith
+    apart (reg v) e = cc
+    apart (num v) e = cc
+    apart (lab m) e = cc
 
     behind : (os : List Opd) → Spelled mid (listed os) → ⊥
     behind [] t = next_or_end mid colon rest q t
