@@ -1,8 +1,8 @@
 -- The first token of a line: found by runs of bytes, and the only one.
-use Rattle.std.proofs.Common.{◌≡◌, ℕ, suc, ◌+◌, ◌-◌, ◌<◌, ◌≤◌, Bool, true, false, ◌⊎◌, List, [], ◌∷◌, ◌++◌, length, get_or, take, drop, Some, None, Option, sym, refl, ap, ◌∙◌, inl, inr, append_assoc, one-add, arith, length-append, length-drop, take-append-drop, Bor}
+use Rattle.std.proofs.Common.{◌≡◌, ℕ, suc, ◌+◌, ◌<◌, ◌≤◌, Bool, true, false, ◌⊎◌, List, [], ◌∷◌, ◌++◌, length, get_or, take, drop, Some, None, Option, sym, refl, ap, ◌∙◌, inl, inr, append_assoc, one-add, arith, length-append, length-drop, take-append-drop, MatchOption}
 use Rattle.std.specs.List.{prefix_len}
 use Rattle.std.proofs.ByRecursion.{All-append, All-get_or}
-use Rattle.std.proofs.lemmas.List.{get_or_append_left, get_or-take, length-take-le, take_at, take_rest, drop-drop}
+use Rattle.std.proofs.lemmas.List.{get_or_append_left, get_or-take, length-take-le, take_at, drop-drop}
 use Rattle.std.proofs.lemmas.List.Sums.{prefix_len-drop_yes, prefix_len-le-length}
 use Rattle.std.proofs.lemmas.Bool.Decides.{nat_tests}
 use Rattle.std.proofs.lemmas.Bool.{both_ways, cases_Bool}
@@ -11,9 +11,9 @@ use Rattle.grammar.specs.declared.token.Class.{Class}
 use Rattle.grammar.specs.declared.token.Class.TheVariants.{Letter, Digit, Underscore, Dollar, Comma, Colon, Semicolon, Space, Other}
 use Rattle.grammar.specs.declared.token.Run.{Run}
 use Rattle.grammar.specs.declared.token.Run.TheVariants.{Spaces, Name, Digits}
+use Rattle.grammar.specs.declared.token.Rest.{Rest}
 use Rattle.grammar.specs.declared.token.Token.{Token}
-use Rattle.grammar.specs.declared.token.Token.TheVariants as token
-use Rattle.grammar.specs.Tokens.{Tok, name, number, register, comma, colon, Runs, Stops, Spells, Parted, Next, Silent, Ends, Spelled, Lexes, NoToken, Fronts, Opens}
+use Rattle.grammar.specs.Tokens.{Tok, name, number, register, comma, colon, Runs, Stops, Spells, Parted, Next, Silent, Ends, Spelled, seen, NoToken, Fronts, Opens}
 
 -- the bytes that `leading` counts, and what is behind them
 pub runs_leading : (run : Run) (bs : List ℕ) → Runs run (take (prefix_len (goes_on run) bs) bs) × Stops run (drop (prefix_len (goes_on run) bs) bs)
@@ -231,12 +231,6 @@ module _ (bs : List ℕ) (n : ℕ) where
       let h : take (1 + n) bs ≡ 36 ∷ take n (drop 1 bs) = rw (one-add, first_is Dollar 36 (λ b q. grind (arith, nat_tests)) bs o) in
       next_made (1 + n) bs (register (take (1 + n) bs)) (refl, (take n (drop 1 bs), h, rw e k.0)) (rw (← drop-drop n 1 bs, e) k.1)
 
-pub next_comma : (bs : List ℕ) → Opens Comma bs → Next bs comma (drop 1 bs)
-next_comma bs o = next_made 1 bs comma (rw (first_is Comma 44 (λ b q. grind (arith, nat_tests)) bs o)) tt
-
-pub next_colon : (bs : List ℕ) → Opens Colon bs → Next bs colon (drop 1 bs)
-next_colon bs o = next_made 1 bs colon (rw (first_is Colon 58 (λ b q. grind (arith, nat_tests)) bs o)) tt
-
 -- no spaces are at the front
 front_same : (bs : List ℕ) → Stops Spaces bs → front bs ≡ bs
 front_same bs s = (cut_leading Spaces bs [] bs refl tt s).1
@@ -267,10 +261,6 @@ no_token bs c s o idle =
       none = λ t r h. both_ways (begins c) off (rw (next_class bs t r c h p) at (opens_begins t).0);
       goes = λ h. let e : c ≡ Semicolon = ends_opens c bs h p in grind arith;
     }
-
--- what is behind the spaces, as the code reads it
-pub front_read : (bs : List ℕ) (n : ℕ) → n ≡ prefix_len (goes_on Spaces) bs → take (length bs - n) (drop n bs) ≡ front bs
-front_read bs n e = take_rest bs n ∙ rw e
 
 -- what is said of the bytes behind the spaces is said of all of them
 module _ (bs : List ℕ) where
@@ -308,14 +298,10 @@ module _ (bs : List ℕ) where
         goes = λ k. h.goes (record { gap = []; rest = k.rest; whole = ends_front bs k; spaces = tt; silent = k.silent });
       }
 
-  lexes_behind : (t : Token) (r : List ℕ) → Lexes (front bs) t r → Lexes bs t r
-  lexes_behind (token.Name text line) r h = next_behind _ r h
-  lexes_behind (token.Number text line) r h = next_behind _ r h
-  lexes_behind (token.Register text line) r h = next_behind _ r h
-  lexes_behind (token.Comma line) r h = next_behind _ r h
-  lexes_behind (token.Colon line) r h = next_behind _ r h
-  lexes_behind (token.End line) r h = ends_behind h
+  lexes_behind : (o : Option Tok) (r : List ℕ) → MatchOption o (Ends (front bs)) (λ u. Next (front bs) u r) → MatchOption o (Ends bs) (λ u. Next bs u r)
+  lexes_behind None r h = ends_behind h
+  lexes_behind (Some u) r h = next_behind u r h
 
-  pub fronts_behind : (o : Option (Token × Bor (List ℕ))) → Fronts (front bs) o → Fronts bs o
+  pub fronts_behind : (o : Option (Token × Rest)) → Fronts (front bs) o → Fronts bs o
   fronts_behind None h = none_behind h
-  fronts_behind (Some p) h = lexes_behind p.0 _ h
+  fronts_behind (Some p) h = lexes_behind (seen p.0) _ h

@@ -2,9 +2,10 @@
 use Rattle.std.proofs.Common.{◌≡◌, ℕ, suc, ◌≤◌, List, [], ◌∷◌, length, Some, None, Option, sym, refl, ap, subst, arith, Bor, MatchOption}
 use Rattle.std.specs.List.{AllByRecursion}
 use Rattle.grammar.specs.declared.operand.Operand.{Operand}
+use Rattle.grammar.specs.declared.token.Rest.{Rest}
 use Rattle.grammar.specs.declared.token.Token.{Token}
 use Rattle.grammar.specs.declared.token.Token.TheVariants.{Name, Number, Register, Comma, Colon, End}
-use Rattle.grammar.specs.Tokens.{Tok, name, comma, colon, Next, Ends, Spelled, seen, Lexes, NoToken}
+use Rattle.grammar.specs.Tokens.{Tok, name, number, register, comma, colon, Next, Ends, Spelled, seen, Lexes, NoToken}
 use Rattle.grammar.specs.Grammar.{Opd, opd, InRange, token, tailed, listed, OperandOf, MoreOf}
 use Rattle.grammar.proofs.Fronts.{next_one, next_or_end}
 
@@ -87,67 +88,55 @@ pub shut_odd : (bs : List ℕ) (t : Token) (rest : List ℕ) → Lexes bs t rest
 shut_odd bs t rest l q h [] short r s = q (read_end bs (seen t) rest l s)
 shut_odd bs t rest l q h (o ∷ os) short r s = h o r.0 (read_next bs (seen t) rest l (token o) s.0 s.1).0
 
--- tokens that are neither
-pub not_comma : (t : Token) → ((x : ℕ) → t ≡ Comma x → ⊥) → seen t ≡ Some comma → ⊥
-not_comma (Name a b) p e = let z : ◌≡◌ {A = ℕ} 0 1 = cc in omega arith
-not_comma (Number a b) p e = let z : ◌≡◌ {A = ℕ} 0 1 = cc in omega arith
-not_comma (Register a b) p e = let z : ◌≡◌ {A = ℕ} 0 1 = cc in omega arith
-not_comma (Comma x) p e = p x refl
-not_comma (Colon x) p e = let z : ◌≡◌ {A = ℕ} 0 1 = cc in omega arith
-not_comma (End x) p e = let z : ◌≡◌ {A = ℕ} 0 1 = cc in omega arith
+-- the token is not of the case that says this
+abbrev pub Unlike : Token → Option Tok → Type 0
+Unlike t None = (x : ℕ) → t ≡ End x → ⊥
+Unlike t (Some (name n)) = (a : Bor (List ℕ)) (x : ℕ) → t ≡ Name a x → ⊥
+Unlike t (Some (number n)) = (a : Bor (List ℕ)) (x : ℕ) → t ≡ Number a x → ⊥
+Unlike t (Some (register n)) = (a : Bor (List ℕ)) (x : ℕ) → t ≡ Register a x → ⊥
+Unlike t (Some comma) = (x : ℕ) → t ≡ Comma x → ⊥
+Unlike t (Some colon) = (x : ℕ) → t ≡ Colon x → ⊥
 
-pub not_end : (t : Token) → ((x : ℕ) → t ≡ End x → ⊥) → seen t ≡ None → ⊥
-not_end (Name a b) p e = let z : ◌≡◌ {A = ℕ} 0 1 = cc in omega arith
-not_end (Number a b) p e = let z : ◌≡◌ {A = ℕ} 0 1 = cc in omega arith
-not_end (Register a b) p e = let z : ◌≡◌ {A = ℕ} 0 1 = cc in omega arith
-not_end (Comma x) p e = let z : ◌≡◌ {A = ℕ} 0 1 = cc in omega arith
-not_end (Colon x) p e = let z : ◌≡◌ {A = ℕ} 0 1 = cc in omega arith
-not_end (End x) p e = p x refl
+alike : (t : Token) → Unlike t (seen t) → ⊥
+alike (Name a x) p = p a x refl
+alike (Number a x) p = p a x refl
+alike (Register a x) p = p a x refl
+alike (Comma x) p = p x refl
+alike (Colon x) p = p x refl
+alike (End x) p = p x refl
+
+-- and so says something else
+pub not_seen : (t : Token) (o : Option Tok) → Unlike t o → seen t ≡ o → ⊥
+not_seen t o p e = alike t (subst (Unlike t) (sym e) p)
 
 -- a token that is read, by what it says
 pub lexed : (bs : List ℕ) (t : Token) (rest : List ℕ) (u : Tok) → Lexes bs t rest → seen t ≡ Some u → Next bs u rest
 lexed bs t rest u l e = subst (λ o. MatchOption o (Ends bs) (λ v. Next bs v rest)) e l
 
 -- what one call said, at what it is matched with
-pub more_at : (bs : List ℕ) {o p : Option (Operand × Bor (List ℕ))} → o ≡ p → MoreOf bs (Some o) → MoreOf bs (Some p)
+pub more_at : (bs : List ℕ) {o p : Option (Operand × Rest)} → o ≡ p → MoreOf bs (Some o) → MoreOf bs (Some p)
 more_at bs e m = subst (λ q. MoreOf bs (Some q)) e m
 
 module _ {bs rest : List ℕ} {t : Tok} (first : Next bs t rest) where
   pub shut_one : MoreOf rest None → Shut bs
   shut_one h = shut_more bs rest t first (barred_none rest 2 h)
 
-  module _ (x : Operand × Bor (List ℕ)) (second : MoreOf rest (Some (Some x))) where
-    shut_behind : Barred x.1.now 1 → Shut bs
-    shut_behind h = shut_more bs rest t first (barred_more rest x.1.now _ second.1.0 1 2 second.1.1 second.1.2 refl h)
+  module _ (x : Operand × Rest) (second : MoreOf rest (Some (Some x))) where
+    shut_behind : Barred x.1.bytes.now 1 → Shut bs
+    shut_behind h = shut_more bs rest t first (barred_more rest x.1.bytes.now _ second.1.0 1 2 second.1.1 second.1.2 refl h)
 
-    pub shut_two : MoreOf x.1.now None → Shut bs
-    shut_two h = shut_behind (barred_none x.1.now 1 h)
+    pub shut_two : MoreOf x.1.bytes.now None → Shut bs
+    shut_two h = shut_behind (barred_none x.1.bytes.now 1 h)
 
-    module _ (y : Operand × Bor (List ℕ)) (third : MoreOf x.1.now (Some (Some y))) where
-      shut_last : Barred y.1.now 0 → Shut bs
-      shut_last h = shut_behind (barred_more x.1.now y.1.now _ third.1.0 0 1 third.1.1 third.1.2 refl h)
+    module _ (y : Operand × Rest) (third : MoreOf x.1.bytes.now (Some (Some y))) where
+      shut_last : Barred y.1.bytes.now 0 → Shut bs
+      shut_last h = shut_behind (barred_more x.1.bytes.now y.1.bytes.now _ third.1.0 0 1 third.1.1 third.1.2 refl h)
 
-      pub shut_three : MoreOf y.1.now None → Shut bs
-      shut_three h = shut_last (barred_none y.1.now 0 h)
+      pub shut_three : MoreOf y.1.bytes.now None → Shut bs
+      shut_three h = shut_last (barred_none y.1.bytes.now 0 h)
 
-      pub shut_four : (z : Operand × Bor (List ℕ)) → MoreOf y.1.now (Some (Some z)) → Shut bs
-      shut_four z h = shut_last (barred_past y.1.now h.1.0 h.1.1)
+      pub shut_four : (z : Operand × Rest) → MoreOf y.1.bytes.now (Some (Some z)) → Shut bs
+      shut_four z h = shut_last (barred_past y.1.bytes.now h.1.0 h.1.1)
 
-      pub three : MoreOf y.1.now (Some None) → Spelled bs (t ∷ tailed (opd x.0 ∷ opd y.0 ∷ []))
-      three h = (rest, first, (second.1.0, second.1.1, (x.1.now, second.1.2, (third.1.0, third.1.1, (y.1.now, third.1.2, h)))))
-
-pub not_colon : (t : Token) → ((x : ℕ) → t ≡ Colon x → ⊥) → seen t ≡ Some colon → ⊥
-not_colon (Name a b) p e = let z : ◌≡◌ {A = ℕ} 0 1 = cc in omega arith
-not_colon (Number a b) p e = let z : ◌≡◌ {A = ℕ} 0 1 = cc in omega arith
-not_colon (Register a b) p e = let z : ◌≡◌ {A = ℕ} 0 1 = cc in omega arith
-not_colon (Comma x) p e = let z : ◌≡◌ {A = ℕ} 0 1 = cc in omega arith
-not_colon (Colon x) p e = p x refl
-not_colon (End x) p e = let z : ◌≡◌ {A = ℕ} 0 1 = cc in omega arith
-
-pub not_name : (t : Token) (n : List ℕ) → ((a : Bor (List ℕ)) (x : ℕ) → t ≡ Name a x → ⊥) → seen t ≡ Some (name n) → ⊥
-not_name (Name a b) n p e = p a b refl
-not_name (Number a b) n p e = let z : ◌≡◌ {A = ℕ} 0 1 = cc in omega arith
-not_name (Register a b) n p e = let z : ◌≡◌ {A = ℕ} 0 1 = cc in omega arith
-not_name (Comma x) n p e = let z : ◌≡◌ {A = ℕ} 0 1 = cc in omega arith
-not_name (Colon x) n p e = let z : ◌≡◌ {A = ℕ} 0 1 = cc in omega arith
-not_name (End x) n p e = let z : ◌≡◌ {A = ℕ} 0 1 = cc in omega arith
+      pub three : MoreOf y.1.bytes.now (Some None) → Spelled bs (t ∷ tailed (opd x.0 ∷ opd y.0 ∷ []))
+      three h = (rest, first, (second.1.0, second.1.1, (x.1.bytes.now, second.1.2, (third.1.0, third.1.1, (y.1.bytes.now, third.1.2, h)))))

@@ -1,37 +1,20 @@
 -- Decimal numbers of at most 65535, read digit by digit.
-use Rattle.std.proofs.Common.{◌≡◌, ℕ, zero, suc, ◌+◌, ◌-◌, ◌*◌, ◌^◌, ◌<◌, ◌≤◌, true, false, List, [], ◌∷◌, length, get_or, Some, None, decimal, Option, sym, refl, ap, ◌∙◌, inl, inr, arith, rules, MatchOption}
-use Rattle.std.specs.Char.{is_ascii_digit}
+use Rattle.std.proofs.Common.{◌≡◌, ℕ, zero, suc, ◌+◌, ◌-◌, ◌*◌, ◌^◌, ◌<◌, ◌≤◌, true, List, [], ◌∷◌, length, get_or, Some, None, decimal, Option, sym, ap, ◌∙◌, inl, inr, arith, rules, MatchOption, nat_le, ◌≢◌}
 use Rattle.std.specs.Str.{all_ascii_digits}
 use Rattle.std.proofs.lemmas.Str.Parse.{IsNumeralModel, numerals_by_fold}
 use Rattle.std.proofs.lemmas.Fmt.{digits_decimal, digits_value-decimal, decimal-digits_value, decimal_nonempty, first_decimal, decimal_digit, decimal_injective}
 use Rattle.std.specs.List.{between}
 use Rattle.std.proofs.lemmas.Slice.{first_rest}
-use Rattle.std.proofs.lemmas.Bool.{and_parts, and_from, true≢false, le-leb, cases_lt}
+use Rattle.std.specs.Bool.{then_some}
+use Rattle.std.proofs.lemmas.Bool.{cases_Bool, leb-true, leb-false, cases_lt}
 use Rattle.grammar.specs.Grammar.{read_on, ReadsOn, NotNumber, NumberUpTo}
 
 own : IsNumeralModel (λ ds. all_ascii_digits ds ≡ true) (read_on 0)
 own = numerals_by_fold _ (search rules) read_on (search rules)
 
-pub on_none : (n : ℕ) (ds : List ℕ) → length ds ≡ 0 → n ≤ 65535 → ReadsOn n ds (Some n)
-on_none n [] e h = (refl, refl, h)
-on_none n (c ∷ ds) e h = absurd (omega arith)
-
-grows : (n : ℕ) (ds : List ℕ) → n ≤ read_on n ds
+pub grows : (n : ℕ) (ds : List ℕ) → n ≤ read_on n ds
 grows n [] = omega arith
 grows n (c ∷ ds) = omega (arith, grows (n * 10 + (c - 48)) ds)
-
-is_digit : (c : ℕ) → 48 ≤ c → c ≤ 57 → is_ascii_digit c ≡ true
-is_digit c low high = and_from _ _ (le-leb 48 c low) (le-leb c 57 high)
-
-pub on_more : (n c : ℕ) (cs : List ℕ) (r : Option ℕ) → 48 ≤ c → c ≤ 57 → ReadsOn (n * 10 + (c - 48)) cs r → ReadsOn n (c ∷ cs) r
-on_more n c cs None low high h = λ e. h (and_parts _ _ e).1
-on_more n c cs (Some v) low high h = (and_from _ _ (is_digit c low high) h.0, h.1, h.2)
-
-pub on_past : (n c : ℕ) (cs : List ℕ) → 65535 < n * 10 + (c - 48) → ReadsOn n (c ∷ cs) None
-on_past n c cs h = λ e. omega (arith, grows (n * 10 + (c - 48)) cs)
-
-pub on_other : (n c : ℕ) (cs : List ℕ) → (is_ascii_digit c ≡ false) → ReadsOn n (c ∷ cs) None
-on_other n c cs h = λ e. absurd (true≢false (sym (and_parts _ _ e).0 ∙ h))
 
 wide : (v : ℕ) → v ≤ 65535 → v < 2 ^ 64
 wide v h = omega arith
@@ -53,22 +36,27 @@ by_digits ds (Some v) some f h =
     let le = h.2 in
     (le, sym (decimal-digits_value own ds h.0 some (λ e. alone_from ds some (λ more. f (more, e))) (omega (arith, h.1))) ∙ ap decimal (sym h.1))
 
+-- what a test of the digits says of numbers
+pub ruleset numerals = (none_empty, none_padded, by_digits)
+
+-- a number has one text, and a text one number
+pub same_number : (v w : ℕ) → v ≤ 65535 → w ≤ 65535 → decimal v ≡ decimal w → v ≡ w
+same_number v w p q e = decimal_injective v w (wide v p) (wide w q) e
+
 module _ (text : List ℕ) (some : 0 < length text) (dollar : get_or text 0 0 ≡ 36) where
   split : text ≡ 36 ∷ between 1 (length text) text
   split = first_rest text 0 some ∙ ap (λ b. b ∷ between 1 (length text) text) dollar
 
-  pub no_register : ((v : ℕ) → v ≤ 31 → between 1 (length text) text ≡ decimal v → ⊥) → (v : ℕ) → v ≤ 31 → text ≡ 36 ∷ decimal v → ⊥
+  no_register : ((v : ℕ) → v ≤ 31 → between 1 (length text) text ≡ decimal v → ⊥) → (v : ℕ) → v ≤ 31 → text ≡ 36 ∷ decimal v → ⊥
   no_register h v le e =
       let s = split in
       let same : between 1 (length text) text ≡ decimal v = cc in
       h v le same
 
-  pub a_register : (v : ℕ) → between 1 (length text) text ≡ decimal v → text ≡ 36 ∷ decimal v
-  a_register v e = split ∙ ap (λ l. 36 ∷ l) e
-
-  pub no_dollar : (v : ℕ) → (get_or text 0 0 ≡ 36 → ⊥) → text ≡ 36 ∷ decimal v → ⊥
-  no_dollar v h e = h (ap (λ l. get_or l 0 0) e)
-
--- a number has one text, and a text one number
-pub same_number : (v w : ℕ) → v ≤ 65535 → w ≤ 65535 → decimal v ≡ decimal w → v ≡ w
-same_number v w p q e = decimal_injective v w (wide v p) (wide w q) e
+  -- a number behind a dollar sign is a register where it is at most 31
+  pub register_or_none : (n : ℕ) → NumberUpTo 65535 (between 1 (length text) text) n → MatchOption (then_some (nat_le n 31) n) ((v : ℕ) → v ≤ 31 → text ≢ 36 ∷ decimal v) (λ v. (v ≤ 31) × (text ≡ 36 ∷ decimal v))
+  register_or_none n told =
+      elim (cases_Bool (nat_le n 31)) [
+        | inl small ↦ rw small (leb-true n 31 small, split ∙ ap (λ l. 36 ∷ l) told.1)
+        | inr large ↦ rw large (no_register (λ v le e. omega (arith, leb-false n 31 large, same_number v n (omega arith) told.0 (sym e ∙ told.1))))
+      ]

@@ -6,7 +6,8 @@ use Rattle.grammar.specs.declared.instruction.Unary.TheVariants.{Floor, Abs, Sqr
 use Rattle.grammar.specs.declared.instruction.Mnemonic.{Mnemonic}
 use Rattle.grammar.specs.declared.instruction.Mnemonic.TheVariants as mnemonic
 use Rattle.grammar.specs.declared.instruction.Instruction.{Instruction}
-use Rattle.grammar.specs.Tokens.{Tok, name, colon, Next, Ends, NoToken, Spelled}
+use Rattle.grammar.specs.declared.token.Token.{Token}
+use Rattle.grammar.specs.Tokens.{Tok, name, comma, colon, Next, Ends, NoToken, Spelled, seen, Lexes}
 use Rattle.grammar.specs.Grammar.{Opd, reg, num, lab, InRange, token, tailed, listed}
 use Rattle.grammar.specs.Forms.{spelling, Ins, binary, unary, cmov, bltz, setx, loop, done, nop, mnemonic_of, operands_of, Formed, FormedBy, Written, CodeAt}
 use Rattle.grammar.specs.Lines.{code_tokens, Says}
@@ -82,12 +83,7 @@ pub listed_one : (os ps : List Opd) → AllByRecursion InRange os → AllByRecur
 listed_one [] [] q r e = refl
 listed_one [] (p ∷ ps) q r e = cc
 listed_one (o ∷ os) [] q r e = cc
-listed_one (o ∷ os) (p ∷ ps) q r e =
-    let t : token o ≡ token p = cc in
-    let more : tailed os ≡ tailed ps = cc in
-    let head = token_one o p q.0 r.0 t in
-    let tail = tailed_one os ps q.1 r.1 more in
-    cc
+listed_one (o ∷ os) (p ∷ ps) q r e = tailed_one (o ∷ os) (p ∷ ps) q r (ap (λ ts. comma ∷ ts) e)
 
 -- an instruction has one name and one list of operands, and these are of no other
 pub code_read : (n rest : List ℕ) (m : Mnemonic) (os : List Opd) (r : Option Instruction) → n ≡ spelling m → AllByRecursion InRange os → Spelled rest (listed os) → FormedBy m os r → CodeAt n rest r
@@ -105,9 +101,9 @@ second_colon bs mid rest n None p q s = next_or_end bs (name n) mid p s
 second_colon bs mid rest n (Some i) p q s = behind (operands_of i) (subst (λ l. Spelled l (listed (operands_of i))) (next_one bs _ (name n) s.0 mid s.1 p).1 s.2)
   where
     apart : (o : Opd) → token o ≡ colon → ⊥
-    apart (reg v) e = let z : ◌≡◌ {A = ℕ} 0 1 = cc in omega arith
-    apart (num v) e = let z : ◌≡◌ {A = ℕ} 0 1 = cc in omega arith
-    apart (lab m) e = let z : ◌≡◌ {A = ℕ} 0 1 = cc in omega arith
+    apart (reg v) e = cc
+    apart (num v) e = cc
+    apart (lab m) e = cc
 
     behind : (os : List Opd) → Spelled mid (listed os) → ⊥
     behind [] t = next_or_end mid colon rest q t
@@ -129,6 +125,22 @@ module _ (bs : List ℕ) where
   unlabelled_none p h None code s = h code s
   unlabelled_none p h (Some n) code s = let t = s.spelled in p n t.0 t.2.0 t.1 t.2.1
 
+-- no name with a colon is at the front
+module _ (bs : List ℕ) where
+  pub unlabelled : NoToken bs → (n mid rest : List ℕ) → Next bs (name n) mid → Next mid colon rest → ⊥
+  unlabelled h n mid rest p q = h.none (name n) mid p
+
+  module _ (t : Token) (r : List ℕ) (first : Lexes bs t r) where
+    pub unlabelled_first : ((n : List ℕ) → seen t ≡ Some (name n) → ⊥) → (n mid rest : List ℕ) → Next bs (name n) mid → Next mid colon rest → ⊥
+    unlabelled_first h n mid rest p q = h n (read_next bs (seen t) r first (name n) mid p).0
+
+    pub unlabelled_end : NoToken r → (n mid rest : List ℕ) → Next bs (name n) mid → Next mid colon rest → ⊥
+    unlabelled_end h n mid rest p q = h.none colon rest (subst (λ l. Next l colon rest) (read_next bs (seen t) r first (name n) mid p).1 q)
+
+    pub unlabelled_second : (u : Token) (s : List ℕ) → Lexes r u s → (seen u ≡ Some colon → ⊥) → (n mid rest : List ℕ) → Next bs (name n) mid → Next mid colon rest → ⊥
+    unlabelled_second u s second h n mid rest p q =
+        h (read_next r (seen u) s second colon rest (subst (λ l. Next l colon rest) (read_next bs (seen t) r first (name n) mid p).1 q)).0
+
 module _ (bs : List ℕ) where
   pub code_none : NoToken bs → (code : Option Ins) → Says bs None code → ⊥
   code_none h None s = h.goes s.spelled
@@ -147,9 +159,6 @@ module _ (bs : List ℕ) where
       let same = next_one bs (name n) _ rest t.0 p t.1 in
       let named : n ≡ spelling (mnemonic_of i) = let e = same.0 in cc in
       h i (record { formed = s.formed; named = named; operands = subst (λ l. Spelled l (listed (operands_of i))) (sym same.1) t.2 })
-
-  pub code_named : (n rest : List ℕ) (i : Ins) → Next bs (name n) rest → Written n rest i → Says bs None (Some i)
-  code_named n rest i p w = record { formed = w.formed; spelled = (rest, subst (λ m. Next bs (name m) rest) w.named p, w.operands) }
 
 -- an instruction from its name and its operands
 abbrev made_of : Mnemonic → List Opd → Ins

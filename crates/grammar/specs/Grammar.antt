@@ -1,8 +1,8 @@
 -- What a line of shader text says: a label or none, an instruction or none.
 use Rattle.std.specs.Prelude.{◌≡◌, ℕ, ◌+◌, ◌-◌, ◌*◌, ◌<◌, ◌≤◌, true, List, [], ◌∷◌, length, Some, None, decimal, Option, MatchOption, ◌≢◌}
-use Rattle.std.specs.Borrow.{Bor}
 use Rattle.std.specs.List.{AllByRecursion}
 use Rattle.std.specs.Str.{all_ascii_digits}
+use Rattle.grammar.specs.declared.token.Rest.{Rest}
 use Rattle.grammar.specs.declared.token.Token.{Token}
 use Rattle.grammar.specs.declared.operand.Operand.{Operand}
 use Rattle.grammar.specs.declared.operand.Operand.TheVariants.{Register, Number, Label}
@@ -70,10 +70,10 @@ abbrev pub OperandOf : Token → Option Operand → Type 0
 OperandOf t r = MatchOption r ((o : Opd) → InRange o → seen t ≢ Some (token o)) (λ x. InRange (opd x) × (seen t ≡ Some (token (opd x))))
 
 -- an operand behind a comma with what follows it, the end of the line, or neither
-abbrev pub MoreOf : List ℕ → Option (Option (Operand × Bor (List ℕ))) → Type 0
+abbrev pub MoreOf : List ℕ → Option (Option (Operand × Rest)) → Type 0
 MoreOf bs None = (os : List Opd) → AllByRecursion InRange os → Spelled bs (tailed os) → ⊥
 MoreOf bs (Some None) = Ends bs
-MoreOf bs (Some (Some x)) = InRange (opd x.0) × ((mid : List ℕ) × Next bs comma mid × Next mid (token (opd x.0)) x.1.now)
+MoreOf bs (Some (Some x)) = InRange (opd x.0) × ((mid : List ℕ) × Next bs comma mid × Next mid (token (opd x.0)) x.1.bytes.now)
 
 -- the operands of the rest of a line, at most three, or none
 abbrev pub OperandsOf : List ℕ → Option Operands → Type 0

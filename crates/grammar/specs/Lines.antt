@@ -4,6 +4,7 @@ use Rattle.std.specs.Borrow.{Bor}
 use Rattle.std.specs.Option.{option_map}
 use Rattle.grammar.specs.declared.instruction.Instruction.{Instruction}
 use Rattle.grammar.specs.declared.line.Line.{Line}
+use Rattle.grammar.specs.declared.token.Rest.{Rest}
 use Rattle.grammar.specs.Tokens.{Tok, name, colon, Next, Spelled}
 use Rattle.grammar.specs.Grammar.{listed}
 use Rattle.grammar.specs.Forms.{spelling, Ins, ins, mnemonic_of, operands_of, Formed}
@@ -24,9 +25,9 @@ pub record Says (bs : List ℕ) (label : Option (List ℕ)) (code : Option Ins) 
   pub spelled : Spelled bs (label_tokens label ++ code_tokens code)
 
 -- the answers of the reader
-abbrev pub LabelOf : List ℕ → Option (Bor (List ℕ) × Bor (List ℕ)) → Type 0
+abbrev pub LabelOf : List ℕ → Option (Bor (List ℕ) × Rest) → Type 0
 LabelOf bs r =
-    MatchOption r ((n mid rest : List ℕ) → Next bs (name n) mid → Next mid colon rest → ⊥) (λ x. (mid : List ℕ) × Next bs (name x.0.now) mid × Next mid colon x.1.now)
+    MatchOption r ((n mid rest : List ℕ) → Next bs (name n) mid → Next mid colon rest → ⊥) (λ x. (mid : List ℕ) × Next bs (name x.0.now) mid × Next mid colon x.1.bytes.now)
 
 abbrev pub CodeFrom : List ℕ → Option (Option Instruction) → Type 0
 CodeFrom bs r = MatchOption r ((code : Option Ins) → Says bs None code → ⊥) (λ x. Says bs None (option_map ins x))

@@ -1,12 +1,12 @@
 -- Tokens, and how the bytes of a line spell them.
 use Rattle.std.specs.Prelude.{◌≡◌, ℕ, ◌<◌, ◌≤◌, true, false, List, [], ◌∷◌, ◌++◌, length, Some, None, Option, MatchOption, slice_index}
-use Rattle.std.specs.Borrow.{Bor}
 use Rattle.std.specs.List.{AllByRecursion}
 use Rattle.grammar.specs.declared.token.Class.{Class}
 use Rattle.grammar.specs.Bytes.{class_of, goes_on}
 use Rattle.grammar.specs.declared.token.Class.TheVariants as class
 use Rattle.grammar.specs.declared.token.Run.{Run}
 use Rattle.grammar.specs.declared.token.Run.TheVariants.{Spaces, Name, Digits}
+use Rattle.grammar.specs.declared.token.Rest.{Rest}
 use Rattle.grammar.specs.declared.token.Token.{Token}
 use Rattle.grammar.specs.declared.token.Token.TheVariants as token
 
@@ -105,8 +105,8 @@ pub record NoToken (bs : List ℕ) : Type 0 where
   pub goes : Ends bs → ⊥
 
 -- the answer of the reader, of the front of the bytes
-abbrev pub Fronts : List ℕ → Option (Token × Bor (List ℕ)) → Type 0
-Fronts bs r = MatchOption r (NoToken bs) (λ p. Lexes bs p.0 p.1.now)
+abbrev pub Fronts : List ℕ → Option (Token × Rest) → Type 0
+Fronts bs r = MatchOption r (NoToken bs) (λ p. Lexes bs p.0 p.1.bytes.now)
 
 -- the first byte is of this class
 pub record Opens (c : Class) (bs : List ℕ) : Type 0 where

@@ -1,12 +1,16 @@
 // Instructions: their names, and the operands that each takes.
-ghost use Rattle.std.specs.Prelude.{◌≡◌, Decides, MatchOption, ◌≢◌};
-ghost use Rattle.grammar.specs.Forms.{spelling, NamedBy, is_destination, is_register, is_number, is_label, FormedBy, CodeAt};
+ghost use Rattle.grammar.specs.Forms.{NamedBy, FormedBy, CodeAt};
 ghost use Rattle.grammar.specs.Grammar.{opds};
 
-use crate::operand::{Operand, Operands, operands_of};
+use crate::operand::Operand::{self, Label, Number, Register};
+use crate::operand::{Operands, operands_of};
+use crate::token::Rest;
+
+// The first register that can be written; the last is $31.
+const FIRST_DESTINATION: u32 = 16;
 
 // D becomes A op B.
-#[derive(Clone, Copy)]
+#[derive(Clone, Copy, PartialEq, Eq, Debug)]
 pub enum Binary {
     Add,
     Sub,
@@ -15,7 +19,7 @@ pub enum Binary {
 }
 
 // D becomes op A.
-#[derive(Clone, Copy)]
+#[derive(Clone, Copy, PartialEq, Eq, Debug)]
 pub enum Unary {
     Floor,
     Abs,
@@ -23,7 +27,7 @@ pub enum Unary {
 }
 
 // What the first name of an instruction says.
-#[derive(Clone, Copy)]
+#[derive(Clone, Copy, PartialEq, Eq, Debug)]
 pub enum Mnemonic {
     Binary(Binary),
     Unary(Unary),
@@ -36,7 +40,7 @@ pub enum Mnemonic {
 }
 
 // An instruction with its operands, the destination first.
-#[derive(Clone, Copy)]
+#[derive(Clone, Copy, PartialEq, Eq, Debug)]
 pub enum Instruction<'a> {
     Binary(Binary, Operand<'a>, Operand<'a>, Operand<'a>),
     Unary(Unary, Operand<'a>, Operand<'a>),
@@ -48,152 +52,44 @@ pub enum Instruction<'a> {
     Nop,
 }
 
-// Whether the bytes are those of the word.
-fn is_word(name: &[u8], word: &[u8]) -> bool
-    ensures { Decides result (name.now ≡ word.now) }
-{
-    name == word
-}
-
-fn binary_of(name: &[u8]) -> Option<Binary>
-    ensures { MatchOption result ((op : Binary) → name.now ≢ spelling (Mnemonic.Binary op)) (λ op. name.now ≡ spelling (Mnemonic.Binary op)) }
-{
-    if is_word(name, b"add") {
-        Some(Binary::Add)
-    } else if is_word(name, b"sub") {
-        Some(Binary::Sub)
-    } else if is_word(name, b"mul") {
-        Some(Binary::Mul)
-    } else if is_word(name, b"div") {
-        Some(Binary::Div)
-    } else {
-        None
-    }
-}
-
-fn unary_of(name: &[u8]) -> Option<Unary>
-    ensures { MatchOption result ((op : Unary) → name.now ≢ spelling (Mnemonic.Unary op)) (λ op. name.now ≡ spelling (Mnemonic.Unary op)) }
-{
-    if is_word(name, b"floor") {
-        Some(Unary::Floor)
-    } else if is_word(name, b"abs") {
-        Some(Unary::Abs)
-    } else if is_word(name, b"sqrt") {
-        Some(Unary::Sqrt)
-    } else {
-        None
-    }
-}
-
 // The instruction of this name.
 fn mnemonic_of(name: &[u8]) -> Option<Mnemonic>
     ensures { NamedBy name.now result }
 {
-    if let Some(op) = binary_of(name) {
-        Some(Mnemonic::Binary(op))
-    } else if let Some(op) = unary_of(name) {
-        Some(Mnemonic::Unary(op))
-    } else if is_word(name, b"cmov") {
-        Some(Mnemonic::Cmov)
-    } else if is_word(name, b"bltz") {
-        Some(Mnemonic::Bltz)
-    } else if is_word(name, b"setx") {
-        Some(Mnemonic::Setx)
-    } else if is_word(name, b"loop") {
-        Some(Mnemonic::Loop)
-    } else if is_word(name, b"done") {
-        Some(Mnemonic::Done)
-    } else if is_word(name, b"nop") {
-        Some(Mnemonic::Nop)
-    } else {
-        None
-    }
-}
-
-// A register that can be written: $16 to $31.
-fn is_destination(o: &Operand) -> bool
-    ensures { result ≡ is_destination o.now }
-{
-    match o {
-        Operand::Register(v) => *v >= 16,
-        _ => false,
-    }
-}
-
-fn is_register(o: &Operand) -> bool
-    ensures { result ≡ is_register o.now }
-{
-    match o {
-        Operand::Register(_) => true,
-        _ => false,
-    }
-}
-
-fn is_number(o: &Operand) -> bool
-    ensures { result ≡ is_number o.now }
-{
-    match o {
-        Operand::Number(_) => true,
-        _ => false,
-    }
-}
-
-fn is_label(o: &Operand) -> bool
-    ensures { result ≡ is_label o.now }
-{
-    match o {
-        Operand::Label(_) => true,
-        _ => false,
-    }
+    Some(match name {
+        b"add" => Mnemonic::Binary(Binary::Add),
+        b"sub" => Mnemonic::Binary(Binary::Sub),
+        b"mul" => Mnemonic::Binary(Binary::Mul),
+        b"div" => Mnemonic::Binary(Binary::Div),
+        b"floor" => Mnemonic::Unary(Unary::Floor),
+        b"abs" => Mnemonic::Unary(Unary::Abs),
+        b"sqrt" => Mnemonic::Unary(Unary::Sqrt),
+        b"cmov" => Mnemonic::Cmov,
+        b"bltz" => Mnemonic::Bltz,
+        b"setx" => Mnemonic::Setx,
+        b"loop" => Mnemonic::Loop,
+        b"done" => Mnemonic::Done,
+        b"nop" => Mnemonic::Nop,
+        _ => return None,
+    })
 }
 
 // The instruction of a name with these operands.
-fn formed<'a>(m: Mnemonic, list: Operands<'a>) -> Option<Instruction<'a>>
+fn formed(m: Mnemonic, list: Operands<'_>) -> Option<Instruction<'_>>
     ensures { FormedBy m (opds list.entry) result }
 {
     match (m, list) {
-        (Mnemonic::Binary(op), Operands::Three(d, a, b)) => {
-            if is_destination(&d) && is_register(&a) && is_register(&b) {
-                Some(Instruction::Binary(op, d, a, b))
-            } else {
-                None
-            }
+        (Mnemonic::Binary(op), Operands::Three(d @ Register(n), a @ Register(_), b @ Register(_)))
+            if n >= FIRST_DESTINATION => Some(Instruction::Binary(op, d, a, b)),
+        (Mnemonic::Unary(op), Operands::Two(d @ Register(n), a @ Register(_)))
+            if n >= FIRST_DESTINATION => Some(Instruction::Unary(op, d, a)),
+        (Mnemonic::Cmov, Operands::Three(d @ Register(n), a @ Register(_), b @ Register(_)))
+            if n >= FIRST_DESTINATION => Some(Instruction::Cmov(d, a, b)),
+        (Mnemonic::Bltz, Operands::Two(a @ Register(_), t @ Label(_))) => {
+            Some(Instruction::Bltz(a, t))
         }
-        (Mnemonic::Unary(op), Operands::Two(d, a)) => {
-            if is_destination(&d) && is_register(&a) {
-                Some(Instruction::Unary(op, d, a))
-            } else {
-                None
-            }
-        }
-        (Mnemonic::Cmov, Operands::Three(d, a, b)) => {
-            if is_destination(&d) && is_register(&a) && is_register(&b) {
-                Some(Instruction::Cmov(d, a, b))
-            } else {
-                None
-            }
-        }
-        (Mnemonic::Bltz, Operands::Two(a, t)) => {
-            if is_register(&a) && is_label(&t) {
-                Some(Instruction::Bltz(a, t))
-            } else {
-                None
-            }
-        }
-        (Mnemonic::Setx, Operands::One(v)) => {
-            if is_number(&v) {
-                Some(Instruction::Setx(v))
-            } else {
-                None
-            }
-        }
-        (Mnemonic::Loop, Operands::One(t)) => {
-            if is_label(&t) {
-                Some(Instruction::Loop(t))
-            } else {
-                None
-            }
-        }
+        (Mnemonic::Setx, Operands::One(v @ Number(_))) => Some(Instruction::Setx(v)),
+        (Mnemonic::Loop, Operands::One(t @ Label(_))) => Some(Instruction::Loop(t)),
         (Mnemonic::Done, Operands::Zero) => Some(Instruction::Done),
         (Mnemonic::Nop, Operands::Zero) => Some(Instruction::Nop),
         _ => None,
@@ -201,10 +97,10 @@ fn formed<'a>(m: Mnemonic, list: Operands<'a>) -> Option<Instruction<'a>>
 }
 
 // The instruction that a name and the rest of its line write.
-pub(crate) fn code_at<'a>(name: &'a [u8], rest: &'a [u8], line: u32) -> Option<Instruction<'a>>
-    ensures { CodeAt name.now rest.now result }
+pub(crate) fn code_at<'a>(name: &[u8], rest: Rest<'a>) -> Option<Instruction<'a>>
+    ensures { CodeAt name.now rest.entry.bytes.now result }
 {
     let m = mnemonic_of(name)?;
-    let list = operands_of(rest, line)?;
+    let list = operands_of(rest)?;
     formed(m, list)
 }

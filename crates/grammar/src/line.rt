@@ -2,57 +2,53 @@
 ghost use Rattle.grammar.specs.Lines.{CodeFrom, LabelOf, Reading, OneReading};
 
 use crate::instruction::{Instruction, code_at};
-use crate::token::{Token, next_token};
+use crate::token::{Rest, Token};
 
-#[derive(Clone, Copy)]
+#[derive(Clone, Copy, PartialEq, Eq, Debug)]
 pub struct Line<'a> {
     pub label: Option<&'a [u8]>,
     pub code: Option<Instruction<'a>>,
 }
 
 // The label that begins a line and what follows its colon, if there is one.
-fn label_of<'a>(bytes: &'a [u8], line: u32) -> Option<(&'a [u8], &'a [u8])>
-    ensures { LabelOf bytes.now result }
+fn label_of(whole: Rest<'_>) -> Option<(&[u8], Rest<'_>)>
+    ensures { LabelOf whole.entry.bytes.now result }
 {
-    let (first, rest) = next_token(bytes, line)?;
-    let Token::Name { text, .. } = first else {
+    let (Token::Name { text, .. }, rest) = whole.next_token()? else {
         return None;
     };
-    let (second, rest) = next_token(rest, line)?;
-    match second {
-        Token::Colon { .. } => Some((text, rest)),
-        _ => None,
-    }
+    let (Token::Colon { .. }, rest) = rest.next_token()? else {
+        return None;
+    };
+    Some((text, rest))
 }
 
 // The instruction that the bytes write, nothing where they are blank.
-fn code_from<'a>(bytes: &'a [u8], line: u32) -> Option<Option<Instruction<'a>>>
-    ensures { CodeFrom bytes.now result }
+fn code_from(rest: Rest<'_>) -> Option<Option<Instruction<'_>>>
+    ensures { CodeFrom rest.entry.bytes.now result }
 {
-    let (first, rest) = next_token(bytes, line)?;
-    match first {
-        Token::End { .. } => Some(None),
-        Token::Name { text, .. } => Some(Some(code_at(text, rest, line)?)),
+    match rest.next_token()? {
+        (Token::End { .. }, _) => Some(None),
+        (Token::Name { text, .. }, rest) => Some(Some(code_at(text, rest)?)),
         _ => None,
     }
 }
 
 // What a line says, or none where it is outside the grammar.
-pub fn read_line<'a>(bytes: &'a [u8], line: u32) -> Option<Line<'a>>
+#[tactic(auto, using(crate::proofs::Readings::says_one))]
+pub fn read_line(bytes: &[u8], line: u32) -> Option<Line<'_>>
     ensures reading { Reading bytes.now result }
     ensures alone { OneReading bytes.now }
 {
-    match label_of(bytes, line) {
-        Some((name, rest)) => {
-            let code = code_from(rest, line)?;
-            Some(Line {
-                label: Some(name),
-                code,
-            })
-        }
-        None => {
-            let code = code_from(bytes, line)?;
-            Some(Line { label: None, code })
-        }
+    let whole = Rest { bytes, line };
+    match label_of(whole) {
+        Some((name, rest)) => Some(Line {
+            label: Some(name),
+            code: code_from(rest)?,
+        }),
+        None => Some(Line {
+            label: None,
+            code: code_from(whole)?,
+        }),
     }
 }

@@ -1,10 +1,16 @@
 // Operands: registers, numbers and labels, each from one token.
-ghost use Rattle.std.specs.Prelude.{◌≡◌, ℕ, ◌<◌, ◌≤◌, ◌∷◌, length, decimal, Decides, MatchOption, ◌≢◌, nat_le, slice_index};
+ghost use Rattle.std.specs.Prelude.{◌≡◌, ℕ, ◌≤◌, ◌∷◌, decimal, MatchOption, ◌≢◌};
 ghost use Rattle.grammar.specs.Grammar.{ReadsOn, NotNumber, NumberUpTo, OperandOf, MoreOf, OperandsOf};
 
-use crate::token::{Token, next_token};
+use crate::token::{Rest, Token};
 
-#[derive(Clone, Copy)]
+// The largest number.
+const NUMBER_MAX: u32 = 65535;
+
+// The last register.
+const REGISTER_MAX: u32 = 31;
+
+#[derive(Clone, Copy, PartialEq, Eq, Debug)]
 pub enum Operand<'a> {
     Register(u32),
     Number(u32),
@@ -12,36 +18,12 @@ pub enum Operand<'a> {
 }
 
 // The operands of one instruction.
-#[derive(Clone, Copy)]
+#[derive(Clone, Copy, PartialEq, Eq, Debug)]
 pub enum Operands<'a> {
     Zero,
     One(Operand<'a>),
     Two(Operand<'a>, Operand<'a>),
     Three(Operand<'a>, Operand<'a>, Operand<'a>),
-}
-
-// Whether a number may be so large.
-fn is_small(n: u32) -> bool
-    ensures { result ≡ nat_le n 65535 }
-{
-    n <= 65535
-}
-
-// Whether there is a register of this number.
-fn is_register_number(n: u32) -> bool
-    ensures { result ≡ nat_le n 31 }
-{
-    n <= 31
-}
-
-// Whether the digits have a zero in front that they do not need.
-fn is_padded(digits: &[u8]) -> bool
-    ensures { Decides result ((1 < length digits.now) × (slice_index digits.now 0 ≡ 48)) }
-{
-    match digits {
-        [b'0', _, ..] => true,
-        _ => false,
-    }
 }
 
 // What the digits write behind those of `front`, or none where it passes 65535.
@@ -51,47 +33,45 @@ fn number_on(front: u32, digits: &[u8]) -> Option<u32>
 {
     match digits {
         [] => Some(front),
-        [first, rest @ ..] => {
-            if *first < b'0' || *first > b'9' {
-                return None;
-            }
+        [first @ b'0'..=b'9', rest @ ..] => {
             let value = front * 10 + u32::from(*first - b'0');
-            if !is_small(value) {
+            if value > NUMBER_MAX {
                 return None;
             }
             number_on(value, rest)
         }
+        _ => None,
     }
 }
 
-// The decimal number of at most 65535 with just these digits.
+// The decimal number of at most 65535 with just these digits, none of them a needless zero.
+#[tactic(auto, using(crate::proofs::Numbers::numerals))]
 fn number_of(digits: &[u8]) -> Option<u32>
     ensures { MatchOption result (NotNumber 65535 digits.now) (λ v. NumberUpTo 65535 digits.now v) }
 {
-    if digits.len() == 0 {
-        return None;
+    match digits {
+        [] => None,
+        [b'0', _, ..] => None,
+        _ => number_on(0, digits),
     }
-    if is_padded(digits) {
-        return None;
-    }
-    number_on(0, digits)
 }
 
 // The register with this name: a dollar sign and a number of at most 31.
+#[tactic(auto, using(crate::proofs::Numbers::register_or_none))]
 fn register_of(text: &[u8]) -> Option<u32>
     ensures { MatchOption result ((v : ℕ) → v ≤ 31 → text.now ≢ 36 ∷ decimal v) (λ v. (v ≤ 31) × (text.now ≡ 36 ∷ decimal v)) }
 {
     match text {
         [b'$', digits @ ..] => {
             let n = number_of(digits)?;
-            if is_register_number(n) { Some(n) } else { None }
+            (n <= REGISTER_MAX).then_some(n)
         }
         _ => None,
     }
 }
 
 // The operand that a token is.
-fn operand_of<'a>(token: Token<'a>) -> Option<Operand<'a>>
+fn operand_of(token: Token<'_>) -> Option<Operand<'_>>
     ensures { OperandOf token.entry result }
 {
     match token {
@@ -103,36 +83,35 @@ fn operand_of<'a>(token: Token<'a>) -> Option<Operand<'a>>
 }
 
 // The operand behind a comma and what follows it, or nothing at the end of the line.
-fn more_of<'a>(bytes: &'a [u8], line: u32) -> Option<Option<(Operand<'a>, &'a [u8])>>
-    ensures { MoreOf bytes.now result }
+fn more_of(rest: Rest<'_>) -> Option<Option<(Operand<'_>, Rest<'_>)>>
+    ensures { MoreOf rest.entry.bytes.now result }
 {
-    let (token, rest) = next_token(bytes, line)?;
-    match token {
-        Token::Comma { .. } => {
-            let (second, rest) = next_token(rest, line)?;
+    match rest.next_token()? {
+        (Token::Comma { .. }, rest) => {
+            let (second, rest) = rest.next_token()?;
             Some(Some((operand_of(second)?, rest)))
         }
-        Token::End { .. } => Some(None),
+        (Token::End { .. }, _) => Some(None),
         _ => None,
     }
 }
 
 // The operands that are left of a line, parted by commas; at most three.
-pub(crate) fn operands_of<'a>(bytes: &'a [u8], line: u32) -> Option<Operands<'a>>
-    ensures { OperandsOf bytes.now result }
+pub(crate) fn operands_of(rest: Rest<'_>) -> Option<Operands<'_>>
+    ensures { OperandsOf rest.entry.bytes.now result }
 {
-    let (first, rest) = next_token(bytes, line)?;
-    if let Token::End { .. } = first {
+    let (first, rest) = rest.next_token()?;
+    if matches!(first, Token::End { .. }) {
         return Some(Operands::Zero);
     }
     let a = operand_of(first)?;
-    let Some((b, rest)) = more_of(rest, line)? else {
+    let Some((b, rest)) = more_of(rest)? else {
         return Some(Operands::One(a));
     };
-    let Some((c, rest)) = more_of(rest, line)? else {
+    let Some((c, rest)) = more_of(rest)? else {
         return Some(Operands::Two(a, b));
     };
-    match more_of(rest, line)? {
+    match more_of(rest)? {
         None => Some(Operands::Three(a, b, c)),
         Some(_) => None,
     }

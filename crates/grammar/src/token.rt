@@ -1,11 +1,14 @@
 // The bytes of a line, cut into tokens that borrow them.
-ghost use Rattle.std.specs.Prelude.{◌≡◌, ◌<◌, ◌≤◌, length, IfSome, nat_le};
+ghost use Rattle.std.specs.Prelude.{◌≡◌, ◌≤◌, length, IfSome, take, drop};
 ghost use Rattle.std.specs.List.{prefix_len};
 ghost use Rattle.grammar.specs.Bytes.{class_of, goes_on};
-ghost use Rattle.grammar.specs.Tokens.{line_of, Lexes, Fronts, Stops, Opens};
+ghost use Rattle.grammar.specs.Tokens.{line_of, Fronts, Stops};
+
+// How many bytes a name may have.
+const NAME_MAX: usize = 16;
 
 // What a byte can be or begin.
-#[derive(Clone, Copy)]
+#[derive(Clone, Copy, PartialEq, Eq, Debug)]
 pub enum Class {
     Letter,
     Digit,
@@ -19,7 +22,7 @@ pub enum Class {
 }
 
 // What a run of bytes is made of.
-#[derive(Clone, Copy)]
+#[derive(Clone, Copy, PartialEq, Eq, Debug)]
 pub enum Run {
     Spaces,
     Name,
@@ -28,7 +31,7 @@ pub enum Run {
 }
 
 // A part of the text, with the number of its line.
-#[derive(Clone, Copy)]
+#[derive(Clone, Copy, PartialEq, Eq, Debug)]
 pub enum Token<'a> {
     Name { text: &'a [u8], line: u32 },
     Number { text: &'a [u8], line: u32 },
@@ -59,12 +62,14 @@ pub(crate) fn class_of(b: u8) -> Class
 fn goes_on(run: Run, b: u8) -> bool
     ensures { result ≡ goes_on run b }
 {
-    match (run, class_of(b)) {
-        (Run::Line, _) => b != b'\n',
-        (Run::Spaces, Class::Space) => true,
-        (Run::Name, Class::Letter | Class::Digit | Class::Underscore) => true,
-        (Run::Digits, Class::Digit) => true,
-        _ => false,
+    match run {
+        Run::Spaces => class_of(b) == Class::Space,
+        Run::Name => matches!(
+            class_of(b),
+            Class::Letter | Class::Digit | Class::Underscore
+        ),
+        Run::Digits => class_of(b) == Class::Digit,
+        Run::Line => b != b'\n',
     }
 }
 
@@ -73,97 +78,70 @@ pub fn run_len(bytes: &[u8], run: Run) -> usize
     ensures value { result ≡ prefix_len (goes_on run) bytes.now }
     ensures within { result ≤ length bytes.now }
 {
-    for (i, b) in bytes.iter().enumerate() {
-        if !goes_on(run, *b) {
-            return i;
+    bytes.iter().take_while(|b| goes_on(run, **b)).count()
+}
+
+// What is left of a line, with the line's number.
+#[derive(Clone, Copy, PartialEq, Eq, Debug)]
+pub struct Rest<'a> {
+    pub bytes: &'a [u8],
+    pub line: u32,
+}
+
+impl<'a> Rest<'a> {
+    // The first `n` bytes, and what follows them.
+    fn split_at(self, n: usize) -> (&'a [u8], Rest<'a>)
+        requires { n ≤ length self.bytes.now }
+        ensures text { result.0.now ≡ take n self.entry.bytes.now }
+        ensures text_len { length result.0.now ≡ n }
+        ensures rest { result.1.bytes.now ≡ drop n self.entry.bytes.now }
+        ensures line { result.1.line ≡ self.entry.line }
+    {
+        let (text, bytes) = self.bytes.split_at(n);
+        (text, Rest { bytes, ..self })
+    }
+
+    // The token that the first byte begins, and what follows it.
+    fn front_token(self) -> Option<(Token<'a>, Rest<'a>)>
+        requires { Stops Run.Spaces self.bytes.now }
+        ensures fronts { Fronts self.entry.bytes.now result }
+        ensures line { IfSome result (λ p. line_of p.0 ≡ self.entry.line) }
+        ensures rest_line { IfSome result (λ p. p.1.line ≡ self.entry.line) }
+    {
+        let Rest { bytes, line } = self;
+        let [first, behind @ ..] = bytes else {
+            return Some((Token::End { line }, self));
+        };
+        match class_of(*first) {
+            Class::Letter => {
+                let (text, rest) = self.split_at(run_len(bytes, Run::Name));
+                if text.len() > NAME_MAX {
+                    return None;
+                }
+                Some((Token::Name { text, line }, rest))
+            }
+            Class::Digit => {
+                let (text, rest) = self.split_at(run_len(bytes, Run::Digits));
+                Some((Token::Number { text, line }, rest))
+            }
+            Class::Dollar => {
+                let (text, rest) = self.split_at(1 + run_len(behind, Run::Digits));
+                Some((Token::Register { text, line }, rest))
+            }
+            Class::Comma => Some((Token::Comma { line }, self.split_at(1).1)),
+            Class::Colon => Some((Token::Colon { line }, self.split_at(1).1)),
+            Class::Semicolon => Some((Token::End { line }, self)),
+            Class::Underscore | Class::Space | Class::Other => None,
         }
     }
-    bytes.len()
-}
 
-// Whether a name may have so many bytes.
-fn is_short(n: usize) -> bool
-    ensures { result ≡ nat_le n 16 }
-{
-    n <= 16
-}
-
-// A name at the front of the bytes, of at most sixteen bytes.
-fn name_token<'a>(bytes: &'a [u8], line: u32) -> Option<(Token<'a>, &'a [u8])>
-    requires { Opens Class.Letter bytes.now }
-    ensures fronts { Fronts bytes.now result }
-    ensures line { IfSome result (λ p. line_of p.0 ≡ line) }
-{
-    let n = run_len(bytes, Run::Name);
-    if !is_short(n) {
-        return None;
+    // The next token of a line and what follows it, or none where the line leaves the grammar.
+    pub(crate) fn next_token(self) -> Option<(Token<'a>, Rest<'a>)>
+        ensures fronts { Fronts self.entry.bytes.now result }
+        ensures line { IfSome result (λ p. line_of p.0 ≡ self.entry.line) }
+        ensures rest_line { IfSome result (λ p. p.1.line ≡ self.entry.line) }
+    {
+        let (_, rest) = self.split_at(run_len(self.bytes, Run::Spaces));
+        rest.front_token()
     }
-    Some((
-        Token::Name {
-            text: &bytes[0..n],
-            line,
-        },
-        &bytes[n..],
-    ))
-}
-
-// A number at the front of the bytes.
-fn number_token<'a>(bytes: &'a [u8], line: u32) -> (Token<'a>, &'a [u8])
-    requires { Opens Class.Digit bytes.now }
-    ensures lexes { Lexes bytes.now result.0 result.1.now }
-    ensures line { line_of result.0 ≡ line }
-{
-    let n = run_len(bytes, Run::Digits);
-    (
-        Token::Number {
-            text: &bytes[0..n],
-            line,
-        },
-        &bytes[n..],
-    )
-}
-
-// A dollar sign at the front of the bytes, with the digits that touch it.
-fn register_token<'a>(bytes: &'a [u8], line: u32) -> (Token<'a>, &'a [u8])
-    requires { Opens Class.Dollar bytes.now }
-    ensures lexes { Lexes bytes.now result.0 result.1.now }
-    ensures line { line_of result.0 ≡ line }
-{
-    let n = 1 + run_len(&bytes[1..], Run::Digits);
-    (
-        Token::Register {
-            text: &bytes[0..n],
-            line,
-        },
-        &bytes[n..],
-    )
-}
-
-// The token that the first byte begins, and what follows it.
-fn front_token<'a>(bytes: &'a [u8], line: u32) -> Option<(Token<'a>, &'a [u8])>
-    requires { Stops Run.Spaces bytes.now }
-    ensures fronts { Fronts bytes.now result }
-    ensures line { IfSome result (λ p. line_of p.0 ≡ line) }
-{
-    if bytes.len() == 0 {
-        return Some((Token::End { line }, bytes));
-    }
-    match class_of(bytes[0]) {
-        Class::Letter => name_token(bytes, line),
-        Class::Digit => Some(number_token(bytes, line)),
-        Class::Dollar => Some(register_token(bytes, line)),
-        Class::Comma => Some((Token::Comma { line }, &bytes[1..])),
-        Class::Colon => Some((Token::Colon { line }, &bytes[1..])),
-        Class::Semicolon => Some((Token::End { line }, bytes)),
-        Class::Underscore | Class::Space | Class::Other => None,
-    }
-}
-
-// The next token of a line and what follows it, or none where the line leaves the grammar.
-pub(crate) fn next_token<'a>(bytes: &'a [u8], line: u32) -> Option<(Token<'a>, &'a [u8])>
-    ensures fronts { Fronts bytes.now result }
-    ensures line { IfSome result (λ p. line_of p.0 ≡ line) }
-{
-    let n = run_len(bytes, Run::Spaces);
-    front_token(&bytes[n..], line)
 }

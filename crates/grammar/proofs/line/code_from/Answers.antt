@@ -1,21 +1,13 @@
-use Rattle.std.proofs.Common.{ap}
-use Rattle.grammar.specs.Tokens.{name, seen}
-use Rattle.grammar.proofs.Lists.{lexed, not_end, not_name}
+use Rattle.std.proofs.Common.{rules}
+use Rattle.grammar.proofs.Lists.{lexed, not_seen}
 use Rattle.grammar.proofs.Readings.{code_none, code_other, code_unnamed}
 use Rattle.grammar.proofs.line.code_from.Goals as goal
 
-pub returns-in_err-first : goal.returns-in_err-first
-returns-in_err-first c = rw c.from_residual.ensures (code_none c.args.bytes.now c.in_err-first.ensures.fronts)
+pub returns-in_err-next_token : goal.returns-in_err-next_token
+returns-in_err-next_token c = rw c.from_residual.ensures (search (rules, code_none))
 
-pub returns-in_err-code_at-in-Name : goal.returns-in_err-code_at-in-Name
-returns-in_err-code_at-in-Name c =
-    let first = c.in_ok-first in
-    let n = c.in-Name.text.now in
-    rw c.from_residual-in_err-code_at-in-Name.ensures
-    (code_unnamed c.args.bytes.now n first.rest.now
-    (lexed c.args.bytes.now first.first first.rest.now (name n) first.ensures.fronts (ap seen c.in-Name.is)) c.in_err-code_at-in-Name.ensures)
+pub returns-in_err-code_at-in-Name-default : goal.returns-in_err-code_at-in-Name-default
+returns-in_err-code_at-in-Name-default c = rw c.from_residual-in_err-code_at-in-Name-default.ensures (search (rules, code_unnamed, lexed))
 
 pub returns-in_default : goal.returns-in_default
-returns-in_default c =
-    let first = c.in_ok-first in
-    code_other c.args.bytes.now (seen first.first) first.rest.now first.ensures.fronts (not_end first.first c.in_default.not-End) (λ n. not_name first.first n c.in_default.not-Name)
+returns-in_default c = search (rules, code_other, not_seen)

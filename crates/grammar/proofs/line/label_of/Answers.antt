@@ -1,28 +1,24 @@
-use Rattle.std.proofs.Common.{subst}
-use Rattle.grammar.specs.Tokens.{name, colon, seen, Next}
-use Rattle.grammar.proofs.Lists.{read_next, not_name, not_colon}
+use Rattle.std.proofs.Common.{rules, Some}
+use Rattle.grammar.specs.Tokens.{name, colon}
+use Rattle.grammar.proofs.Lists.{not_seen}
+use Rattle.grammar.proofs.Readings.{unlabelled, unlabelled_first, unlabelled_end, unlabelled_second}
 use Rattle.grammar.proofs.line.label_of.Goals as goal
 
-pub returns-in_err-first : goal.returns-in_err-first
-returns-in_err-first c = rw c.from_residual.ensures (λ n mid rest p q. c.in_err-first.ensures.fronts.none (name n) mid p)
+pub returns-in_err-text : goal.returns-in_err-text
+returns-in_err-text c = rw c.from_residual.ensures (unlabelled c.args.whole.bytes.now c.in_err-text.ensures.fronts)
 
 pub returns-in_default : goal.returns-in_default
-returns-in_default c n mid rest p q =
-    let first = c.in_ok-first in
-    not_name first.first n c.in_default.not-Name (read_next c.args.bytes.now (seen first.first) first.rest.now first.ensures.fronts (name n) mid p).0
+returns-in_default c =
+    let (first, behind) = c.in_ok-text.field-0 in
+    unlabelled_first c.args.whole.bytes.now first behind.bytes.now c.in_ok-text.ensures.fronts (λ n. not_seen first (Some (name n)) (λ a x e. search rules))
 
-pub returns-in_err-second : goal.returns-in_err-second
-returns-in_err-second c =
-    let first = c.in_ok-first in
-    rw c.from_residual-in_err-second.ensures
-    (λ n mid rest p q.
-    let same = (read_next c.args.bytes.now (seen first.first) first.rest.now first.ensures.fronts (name n) mid p).1 in
-    c.in_err-second.ensures.fronts.none colon rest (subst (λ l. Next l colon rest) same q))
+pub returns-in_err-rest : goal.returns-in_err-rest
+returns-in_err-rest c =
+    let (first, behind) = c.in_ok-text.field-0 in
+    rw c.from_residual-in_err-rest.ensures (unlabelled_end c.args.whole.bytes.now first behind.bytes.now c.in_ok-text.ensures.fronts c.in_err-rest.ensures.fronts)
 
-pub returns-in_default-second : goal.returns-in_default-second
-returns-in_default-second c n mid rest p q =
-    let first = c.in_ok-first in
-    let second = c.in_ok-second in
-    let same = (read_next c.args.bytes.now (seen first.first) first.rest.now first.ensures.fronts (name n) mid p).1 in
-    not_colon second.second c.in_default-second.not-Colon
-    (read_next first.rest.now (seen second.second) second.rest.now second.ensures.fronts colon rest (subst (λ l. Next l colon rest) same q)).0
+pub returns-in_default-2 : goal.returns-in_default-2
+returns-in_default-2 c =
+    let (first, behind) = c.in_ok-text.field-0 in
+    let (second, after) = c.in_ok-rest.field-0 in
+    unlabelled_second c.args.whole.bytes.now first behind.bytes.now c.in_ok-text.ensures.fronts second after.bytes.now c.in_ok-rest.ensures.fronts (not_seen second (Some colon) (λ x e. search rules))

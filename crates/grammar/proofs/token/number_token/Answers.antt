@@ -1,8 +1,0 @@
-use Rattle.std.proofs.Common.{refl}
-use native.Mathlib.Nat.{sub-zero}
-use Rattle.std.proofs.lemmas.List.{take_rest}
-use Rattle.grammar.proofs.Fronts.{next_number}
-use Rattle.grammar.proofs.token.number_token.Goals as goal
-
-pub returns : goal.returns
-returns c = record { lexes = simp (sub-zero, take_rest) (next_number c.args.bytes.now c.run_len-n.result c.run_len-n.ensures.value c.requires); line = refl }
