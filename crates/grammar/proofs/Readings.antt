@@ -1,8 +1,8 @@
 -- A line is read in one way only.
 use Rattle.std.proofs.Common.{◌≡◌, ℕ, ◌+◌, ◌*◌, cond, eqb, List, [], ◌∷◌, get_or, IfSome, Some, None, decimal, Option, sym, refl, ap, ◌∙◌, subst, ap₂, arith, MatchOption}
 use Rattle.std.specs.List.{AllByRecursion}
-use Rattle.grammar.specs.declared.instruction.Binary.TheVariants.{Add, Sub, Mul, Div}
-use Rattle.grammar.specs.declared.instruction.Unary.TheVariants.{Floor, Abs, Sqrt}
+use Rattle.operations.specs.declared.Binary.TheVariants.{Add, Sub, Mul, Div}
+use Rattle.operations.specs.declared.Unary.TheVariants.{Floor, Abs, Sqrt}
 use Rattle.grammar.specs.declared.instruction.Mnemonic.{Mnemonic}
 use Rattle.grammar.specs.declared.instruction.Mnemonic.TheVariants as mnemonic
 use Rattle.grammar.specs.declared.instruction.Instruction.{Instruction}

@@ -1,10 +1,10 @@
 -- The instructions: how each is named, and what its operands are.
 use Rattle.std.specs.Prelude.{◌≡◌, ℕ, ◌≤◌, Bool, true, false, List, [], ◌∷◌, codes, Option, MatchOption, ◌≢◌, nat_le}
 use Rattle.std.specs.List.{AllByRecursion}
-use Rattle.grammar.specs.declared.instruction.Binary.{Binary}
-use Rattle.grammar.specs.declared.instruction.Binary.TheVariants.{Add, Sub, Mul, Div}
-use Rattle.grammar.specs.declared.instruction.Unary.{Unary}
-use Rattle.grammar.specs.declared.instruction.Unary.TheVariants.{Floor, Abs, Sqrt}
+use Rattle.operations.specs.declared.Binary.{Binary}
+use Rattle.operations.specs.declared.Binary.TheVariants.{Add, Sub, Mul, Div}
+use Rattle.operations.specs.declared.Unary.{Unary}
+use Rattle.operations.specs.declared.Unary.TheVariants.{Floor, Abs, Sqrt}
 use Rattle.grammar.specs.declared.instruction.Mnemonic.{Mnemonic}
 use Rattle.grammar.specs.declared.instruction.Mnemonic.TheVariants as mnemonic
 use Rattle.grammar.specs.declared.instruction.Instruction.{Instruction}

@@ -5,26 +5,10 @@ ghost use Rattle.grammar.specs.Grammar.{opds};
 use crate::operand::Operand::{self, Label, Number, Register};
 use crate::operand::{Operands, operands_of};
 use crate::token::Rest;
+use operations::{Binary, Unary};
 
 // The first register that can be written; the last is $31.
 const FIRST_DESTINATION: u32 = 16;
-
-// D becomes A op B.
-#[derive(Clone, Copy, PartialEq, Eq, Debug)]
-pub enum Binary {
-    Add,
-    Sub,
-    Mul,
-    Div,
-}
-
-// D becomes op A.
-#[derive(Clone, Copy, PartialEq, Eq, Debug)]
-pub enum Unary {
-    Floor,
-    Abs,
-    Sqrt,
-}
 
 // What the first name of an instruction says.
 #[derive(Clone, Copy, PartialEq, Eq, Debug)]

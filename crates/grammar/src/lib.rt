@@ -6,7 +6,8 @@ mod line;
 mod operand;
 mod token;
 
-pub use instruction::{Binary, Instruction, Unary};
+pub use instruction::Instruction;
 pub use line::{Line, read_line};
 pub use operand::Operand;
+pub use operations::{Binary, Unary};
 pub use token::{Run, run_len};

@@ -5,8 +5,8 @@ use Rattle.std.proofs.ByRecursion.{All-append, All-weaker}
 use Rattle.std.proofs.lemmas.Bool.{and_parts, leb-true}
 use Rattle.std.proofs.lemmas.Bool.Decides.{nat_tests}
 use Rattle.grammar.specs.Bytes.{class_of, goes_on, letter, wordy}
-use Rattle.grammar.specs.declared.instruction.Binary.TheVariants.{Add, Sub, Mul, Div}
-use Rattle.grammar.specs.declared.instruction.Unary.TheVariants.{Floor, Abs, Sqrt}
+use Rattle.operations.specs.declared.Binary.TheVariants.{Add, Sub, Mul, Div}
+use Rattle.operations.specs.declared.Unary.TheVariants.{Floor, Abs, Sqrt}
 use Rattle.grammar.specs.declared.instruction.Mnemonic.{Mnemonic}
 use Rattle.grammar.specs.declared.instruction.Mnemonic.TheVariants as mnemonic
 use Rattle.grammar.specs.declared.token.Class.TheVariants.{Letter}

@@ -2,8 +2,8 @@
 use Rattle.std.specs.Prelude.{◌≡◌, ℕ, suc, ◌<◌, ◌≤◌, List, [], ◌∷◌, ◌++◌, map, length, drop, Ok, decimal, Result}
 use Rattle.std.specs.List.{AllByRecursion}
 use Rattle.text.specs.declared.fault.Fault.{Fault}
-use Rattle.grammar.specs.declared.instruction.Binary.{Binary}
-use Rattle.grammar.specs.declared.instruction.Unary.{Unary}
+use Rattle.operations.specs.declared.Binary.{Binary}
+use Rattle.operations.specs.declared.Unary.{Unary}
 use Rattle.text.specs.declared.table.Counts.{Counts}
 use Rattle.text.specs.declared.table.Label.{Label}
 use Rattle.grammar.specs.Grammar.{Opd, reg, num, lab}
