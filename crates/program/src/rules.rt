@@ -16,7 +16,8 @@ fn keeps<F: Fn(Place) -> bool>(words: &[u32], breaks: F) -> Result<(), u32>
     ghost rule: { Rule }
     requires short { length words.now ≤ 2048 }
     requires callable { F.IsAlwaysCallable breaks }
-    requires exact { (p : Place) (b : Bool) → F.post breaks p b → IsTrue b ↔ Breaks rule p.words.now p.address }
+    requires exact { (p : Place) (b : Bool) → F.post breaks p b
+        → IsTrue b ↔ Breaks rule p.words.now p.address }
     ensures { Found (Breaks rule words.now) (result_err result) }
 {
     for address in 0..words.len() {
