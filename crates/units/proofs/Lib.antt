@@ -6,4 +6,5 @@ mod Radicands
 mod Rights
 mod Scaling
 mod Shifts
+mod Sizes
 mod Wholes

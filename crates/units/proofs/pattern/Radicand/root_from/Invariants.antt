@@ -1,5 +1,5 @@
 use Rattle.std.proofs.Common.{◌-◌, ◌*◌, ◌^◌, ◌≤◌}
-use Rattle.units.proofs.pattern.root_from.Given as goal
+use Rattle.units.proofs.pattern.Radicand.root_from.Given as goal
 
 abbrev pub invariant-loop-root : goal.invariant-loop-root
 invariant-loop-root l = l.root ≤ 2 ^ 24
