@@ -3,7 +3,7 @@ mod Decoded
 mod Halves
 mod Levels
 mod Radicands
-mod Rights
+pub mod Rights
 mod Scaling
 mod Shifts
 mod Sizes

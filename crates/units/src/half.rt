@@ -204,6 +204,7 @@ fn number(v: i32) -> u32
     HALF.signed(v < 0, HALF.rounded(digits << 17, z + 1))
 }
 
+#[tactic(auto, using(crate::proofs::Rights::rights))]
 impl Unit for Half {
     ghost rules = { λ _. half };
 

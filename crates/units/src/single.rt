@@ -28,6 +28,7 @@ fn number(v: i32) -> u32
     SINGLE.signed(v < 0, (141 - z) * 0x80_0000 + digits)
 }
 
+#[tactic(auto, using(crate::proofs::Rights::floats))]
 impl Unit for Single {
     ghost rules = { λ _. single };
 

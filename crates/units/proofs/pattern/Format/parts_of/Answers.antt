@@ -1,25 +1,13 @@
 use Rattle.units.proofs.pattern.Format.parts_of.Goals as goal
-use Rattle.std.proofs.Common.{refl, inl, inr, arith}
-use Rattle.ieee.proofs.Steps.{hidden_pos, pow_double, normal_parts}
-use Rattle.ieee.specs.Formats.{hidden}
+use Rattle.std.proofs.Common.{arith}
+use Rattle.ieee.proofs.Steps.{hidden_pos, pow_double}
 use Rattle.units.proofs.Shifts.{small_steps, normal_steps}
 
-pub returns-then-m-h : goal.returns-then-m-h
-returns-then-m-h g c = record {
-  value = small_steps g.row.P c.args.m (omega arith) (omega arith);
-  parts = omega arith;
-  digits = omega (arith, pow_double g.row.P (omega arith));
-  leading = inl refl;
-}
+pub returns-then-m-h-clause-value : goal.returns-then-m-h-clause-value
+returns-then-m-h-clause-value g c = small_steps g.row.P c.args.m (omega arith) (omega arith)
 
-pub returns-else-m-h : goal.returns-else-m-h
-returns-else-m-h g c =
-    let h = c.hidden-h.ensures in
-    let l = c.low_bits.ensures in
-    let n = normal_parts c.args.m (hidden g.row.P) (hidden_pos g.row.P) (omega arith) in
-    record {
-      value = rw (h, l) (normal_steps g.row.P c.args.m (omega arith) (omega arith));
-      parts = rw (h, l) n.1;
-      digits = omega (arith, pow_double g.row.P (omega arith));
-      leading = inr (omega arith);
-    }
+pub returns-else-m-h-clause-value : goal.returns-else-m-h-clause-value
+returns-else-m-h-clause-value g c = rw (c.hidden-h.ensures, c.low_bits.ensures) (normal_steps g.row.P c.args.m (omega arith) (omega arith))
+
+pub returns-else-m-h-clause-digits : goal.returns-else-m-h-clause-digits
+returns-else-m-h-clause-digits g c = omega (arith, hidden_pos g.row.P, pow_double g.row.P (omega arith))

@@ -3,22 +3,13 @@ use Rattle.units.proofs.pattern.Format.root_pattern.Goals.{After-nearest_root}
 use Rattle.std.proofs.Common.{ℕ, ◌+◌, ◌*◌, ◌^◌, ap, ◌∙◌, arith}
 use Rattle.std.proofs.lemmas.Nat.{mul-le}
 use Rattle.units.proofs.Sizes.{sizes}
-use Rattle.units.proofs.Radicands.{Root, root_is, root_bound, exponent_below, exponent_bound, digits_above}
-
-pub overflow_add-exponent : goal.overflow_add-exponent
-overflow_add-exponent g c = omega (arith, exponent_bound _ g.row.E _ _ _ (omega arith) c.args.self.bound c.args.x.below c.parts_of-digits.ensures.parts c.parts_of-digits.ensures.leading)
+use Rattle.units.proofs.Radicands.{Root, root_is, root_bound, exponent_below}
 
 pub overflow_mul-result : goal.overflow_mul-result
 overflow_mul-result g c =
     let x = c.parts_of-digits.ensures in
     let k = exponent_below _ g.row.E _ _ _ (omega arith) c.args.x.below x.parts x.leading in
     omega (arith, mul-le c.radicand_of-radicand.result.j c.hidden.result 254 (2 ^ 23) (omega arith) (omega (arith, sizes g.row.P g.row.E c.args.self.most c.args.self.bound)))
-
-pub radicand_of-radicand-requires : goal.radicand_of-radicand-requires
-radicand_of-radicand-requires g c =
-    let k = exponent_bound _ g.row.E _ _ _ (omega arith) c.args.self.bound c.args.x.below c.parts_of-digits.ensures.parts c.parts_of-digits.ensures.leading in
-    let d = digits_above _ _ _ _ c.requires c.parts_of-digits.ensures.parts c.parts_of-digits.ensures.leading in
-    (omega arith, (d, c.parts_of-digits.ensures.digits, omega arith, omega arith))
 
 root : (g : _) (c : After-nearest_root g)
     → Root g.row.P g.row.E c.args.x.pattern c.parts_of-digits.result.exponent c.parts_of-digits.result.digits c.radicand_of-radicand.result.j c.radicand_of-radicand.result.n c.nearest_root.result
