@@ -25,42 +25,46 @@ struct Exact {
     ghost bound: { n < 2 ^ 41 },
 }
 
-// How many smallest values the magnitude of a finite value is.
-fn count(x: Finite<11, 15>) -> u64
-    ensures value { result ≡ Formats.steps 11 x.pattern }
-    ensures bound { result < 2 ^ 40 }
-{
-    let Magnitude { digits, exponent } = HALF.parts_of(x.pattern);
-    digits << exponent
+impl Finite<11, 15> {
+    // How many smallest values the magnitude is.
+    fn count(self) -> u64
+        ensures value { result ≡ Formats.steps 11 self.pattern }
+        ensures bound { result < 2 ^ 40 }
+    {
+        let Magnitude { digits, exponent } = HALF.parts_of(self.pattern);
+        digits << exponent
+    }
 }
 
-// The word of a sign and a count of smallest values.
-fn word(x: Exact) -> u32
-    ensures { result ≡ Formats.signed 11 15 x.negative (Rounding.round 11 15 x.n 1) }
-{
-    HALF.signed(x.negative, HALF.rounded(2 * x.n, 1))
-}
+impl Exact {
+    // The sum of two finite values.
+    fn sum(x: Finite<11, 15>, y: Finite<11, 15>) -> Exact
+        ensures { Rounding.fraction result.negative result.n 1 ≡ Operations.finite_sum x.negative (Formats.steps 11 x.pattern) y.negative (Formats.steps 11 y.pattern) }
+    {
+        let a = x.count();
+        let b = y.count();
+        if x.negative == y.negative {
+            Exact {
+                negative: x.negative,
+                n: a + b,
+            }
+        } else {
+            Exact {
+                negative: if a < b {
+                    y.negative
+                } else {
+                    x.negative && b < a
+                },
+                n: a.abs_diff(b),
+            }
+        }
+    }
 
-// The exact sum of two finite values.
-fn exact_sum(x: Finite<11, 15>, y: Finite<11, 15>) -> Exact
-    ensures { Rounding.fraction result.negative result.n 1 ≡ Operations.finite_sum x.negative (Formats.steps 11 x.pattern) y.negative (Formats.steps 11 y.pattern) }
-{
-    let a = count(x);
-    let b = count(y);
-    if x.negative == y.negative {
-        Exact {
-            negative: x.negative,
-            n: a + b,
-        }
-    } else {
-        Exact {
-            negative: if a < b {
-                y.negative
-            } else {
-                x.negative && b < a
-            },
-            n: a.abs_diff(b),
-        }
+    // Its word.
+    fn word(self) -> u32
+        ensures { result ≡ Formats.signed 11 15 self.negative (Rounding.round 11 15 self.n 1) }
+    {
+        HALF.signed(self.negative, HALF.rounded(2 * self.n, 1))
     }
 }
 
@@ -70,7 +74,7 @@ fn sum(x: Value<11, 15>, y: Value<11, 15>) -> u32
     ensures { result ≡ Rounding.word 11 15 (Operations.sum (meaning 11 15 x) (meaning 11 15 y)) }
 {
     match (x, y) {
-        (Value::Finite(x), Value::Finite(y)) => word(exact_sum(x, y)),
+        (Value::Finite(x), Value::Finite(y)) => Exact::sum(x, y).word(),
         (Value::Infinite(s), Value::Finite(_)) => HALF.endless(s),
         (Value::Finite(_), Value::Infinite(t)) => HALF.endless(t),
         (Value::Infinite(s), Value::Infinite(t)) => {
@@ -80,22 +84,7 @@ fn sum(x: Value<11, 15>, y: Value<11, 15>) -> u32
                 HALF.quiet()
             }
         }
-        (Value::NotNumber, _) => HALF.quiet(),
-        (_, Value::NotNumber) => HALF.quiet(),
-    }
-}
-
-// The value with the other sign.
-fn opposite(x: Value<11, 15>) -> Value<11, 15>
-    ensures { meaning 11 15 result ≡ Operations.opposite (meaning 11 15 x) }
-{
-    match x {
-        Value::NotNumber => Value::NotNumber,
-        Value::Infinite(s) => Value::Infinite(!s),
-        Value::Finite(Finite { negative, pattern }) => Value::Finite(Finite {
-            negative: !negative,
-            pattern,
-        }),
+        (Value::NotNumber, _) | (_, Value::NotNumber) => HALF.quiet(),
     }
 }
 
@@ -124,8 +113,7 @@ fn product(x: Value<11, 15>, y: Value<11, 15>) -> u32
         (Value::Infinite(s), Value::Finite(y)) => endless_unless(y.pattern == 0, s != y.negative),
         (Value::Finite(x), Value::Infinite(t)) => endless_unless(x.pattern == 0, x.negative != t),
         (Value::Infinite(s), Value::Infinite(t)) => HALF.endless(s != t),
-        (Value::NotNumber, _) => HALF.quiet(),
-        (_, Value::NotNumber) => HALF.quiet(),
+        (Value::NotNumber, _) | (_, Value::NotNumber) => HALF.quiet(),
     }
 }
 
@@ -154,8 +142,8 @@ fn finite_quotient(x: Finite<11, 15>, y: Finite<11, 15>) -> u32
     requires { 0 < y.pattern }
     ensures { result ≡ Formats.signed 11 15 (Operations.unlike x.negative y.negative) (Rounding.round 11 15 (Formats.steps 11 x.pattern * 2 ^ 24) (Formats.steps 11 y.pattern)) }
 {
-    let a = count(x) << 24;
-    let b = count(y);
+    let a = x.count() << 24;
+    let b = y.count();
     let pattern = if b <= a >> 40 {
         HALF.infinity()
     } else {
@@ -179,8 +167,7 @@ fn quotient(x: Value<11, 15>, y: Value<11, 15>) -> u32
         (Value::Infinite(s), Value::Finite(y)) => HALF.endless(s != y.negative),
         (Value::Finite(x), Value::Infinite(t)) => HALF.signed(x.negative != t, 0),
         (Value::Infinite(_), Value::Infinite(_)) => HALF.quiet(),
-        (Value::NotNumber, _) => HALF.quiet(),
-        (_, Value::NotNumber) => HALF.quiet(),
+        (Value::NotNumber, _) | (_, Value::NotNumber) => HALF.quiet(),
     }
 }
 
@@ -229,7 +216,7 @@ impl Unit for Half {
         ensures right { Right 11 15 (Operations.sum (Formats.decode 11 15 a) (Operations.opposite (Formats.decode 11 15 b))) result }
         ensures width { result < 2 ^ 16 }
     {
-        sum(HALF.decode(a), opposite(HALF.decode(b)))
+        sum(HALF.decode(a), -HALF.decode(b))
     }
 
     fn mul(&self, a: u32, b: u32) -> u32

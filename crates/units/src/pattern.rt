@@ -6,6 +6,8 @@ ghost use Rattle.ieee.specs.Formats as Formats;
 ghost use Rattle.ieee.specs.Rounding as Rounding;
 ghost use Rattle.ieee.specs.Operations as Operations;
 
+use std::ops::Neg;
+
 // A format of precision P and greatest exponent E, with sizes that the code's numbers hold.
 #[derive(Clone, Copy, Drop)]
 pub(crate) struct Format<const P: u32, const E: u32> {
@@ -29,6 +31,26 @@ pub(crate) enum Value<const P: u32, const E: u32> {
     NotNumber,
     Infinite(bool),
     Finite(Finite<P, E>),
+}
+
+// The value with the other sign.
+impl<const P: u32, const E: u32> Neg for Value<P, E> {
+    ghost use Rattle.units.specs.Patterns.{meaning};
+
+    type Output = Value<P, E>;
+
+    ghost neg_gives = { λ x r. meaning P E r ≡ Operations.opposite (meaning P E x) };
+
+    fn neg(self) -> Value<P, E> {
+        match self {
+            Value::NotNumber => Value::NotNumber,
+            Value::Infinite(s) => Value::Infinite(!s),
+            Value::Finite(Finite { negative, pattern }) => Value::Finite(Finite {
+                negative: !negative,
+                pattern,
+            }),
+        }
+    }
 }
 
 // A magnitude of digits * 2^exponent smallest values.
