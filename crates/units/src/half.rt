@@ -12,13 +12,13 @@ use crate::pattern::{Finite, Format, Magnitude, Value, significand};
 use crate::unit::Unit;
 
 // It has nothing to remember.
-#[derive(Clone, Copy, Drop)]
+#[derive(Clone, Copy, PartialEq, Eq, Debug, Drop)]
 pub struct Half;
 
 const HALF: Format<11, 15> = Format {};
 
 // A sign and a count of smallest values.
-#[derive(Clone, Copy, Drop)]
+#[derive(Clone, Copy, PartialEq, Eq, Debug, Drop)]
 struct Exact {
     negative: bool,
     n: u64,

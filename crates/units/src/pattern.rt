@@ -9,7 +9,7 @@ ghost use Rattle.ieee.specs.Operations as Operations;
 use std::ops::Neg;
 
 // A format of precision P and greatest exponent E, with sizes that the code's numbers hold.
-#[derive(Clone, Copy, Drop)]
+#[derive(Clone, Copy, PartialEq, Eq, Debug, Drop)]
 pub(crate) struct Format<const P: u32, const E: u32> {
     ghost least: { 8 ≤ P },
     ghost most: { P ≤ 24 },
@@ -18,7 +18,7 @@ pub(crate) struct Format<const P: u32, const E: u32> {
 }
 
 // A finite value: its sign, and the pattern of its magnitude.
-#[derive(Clone, Copy, Drop)]
+#[derive(Clone, Copy, PartialEq, Eq, Debug, Drop)]
 pub(crate) struct Finite<const P: u32, const E: u32> {
     pub(crate) negative: bool,
     pub(crate) pattern: u32,
@@ -26,7 +26,7 @@ pub(crate) struct Finite<const P: u32, const E: u32> {
 }
 
 // What a word stands for.
-#[derive(Clone, Copy, Drop)]
+#[derive(Clone, Copy, PartialEq, Eq, Debug, Drop)]
 pub(crate) enum Value<const P: u32, const E: u32> {
     NotNumber,
     Infinite(bool),
@@ -54,14 +54,14 @@ impl<const P: u32, const E: u32> Neg for Value<P, E> {
 }
 
 // A magnitude of digits * 2^exponent smallest values.
-#[derive(Clone, Copy, Drop)]
+#[derive(Clone, Copy, PartialEq, Eq, Debug, Drop)]
 pub(crate) struct Magnitude {
     pub(crate) digits: u64,
     pub(crate) exponent: u32,
 }
 
 // digits * 2^shift as n * 4^j.
-#[derive(Clone, Copy, Drop)]
+#[derive(Clone, Copy, PartialEq, Eq, Debug, Drop)]
 struct Radicand {
     n: u64,
     j: u32,

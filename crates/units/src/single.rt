@@ -10,7 +10,7 @@ use crate::unit::Unit;
 use std::num::{f32_from_bits_with_nan, f32_to_bits_with_nan};
 
 // It has nothing to remember.
-#[derive(Clone, Copy, Drop)]
+#[derive(Clone, Copy, PartialEq, Eq, Debug, Drop)]
 pub struct Single;
 
 const SINGLE: Format<24, 127> = Format {};
