@@ -1,6 +1,6 @@
 -- What the clauses on patterns cite.
 use Rattle.std.specs.Prelude.{◌≡◌, ℕ, ◌+◌, ◌-◌, ◌*◌, ◌/◌, ◌^◌, ◌<◌, ◌≤◌, Bool, cond, ◌==◌, nat_le, nat_lt}
-use Rattle.ieee.specs.Formats.{not_number, infinite, finite, hidden, infinity, sign_weight, quiet, steps, low}
+use Rattle.ieee.specs.Formats.{not_number, infinite, finite, steps, low}
 use Rattle.ieee.specs.Rounding.{round, round_root}
 use Rattle.ieee.specs.Formats as Formats
 use Rattle.units.specs.declared.pattern.Value.{Value}

@@ -77,13 +77,7 @@ fn sum(x: Value<11, 15>, y: Value<11, 15>) -> u32
         (Value::Finite(x), Value::Finite(y)) => Exact::sum(x, y).word(),
         (Value::Infinite(s), Value::Finite(_)) => HALF.endless(s),
         (Value::Finite(_), Value::Infinite(t)) => HALF.endless(t),
-        (Value::Infinite(s), Value::Infinite(t)) => {
-            if s == t {
-                HALF.endless(s)
-            } else {
-                HALF.quiet()
-            }
-        }
+        (Value::Infinite(s), Value::Infinite(t)) => endless_unless(s != t, s),
         (Value::NotNumber, _) | (_, Value::NotNumber) => HALF.quiet(),
     }
 }

@@ -122,7 +122,7 @@ impl Radicand {
         ((guess + self.n / guess) / 2).clamp(1, 1 << 24)
     }
 
-    // The whole root, from a guess that need not be good. The library's isqrt takes five times as long as all of a half's root.
+    // The whole root, from a guess that need not be good. With the library's isqrt a half's sqrt takes five times as long.
     fn root_from(self, guess: u64) -> u64
         requires { guess ≤ 2 ^ 24 }
         ensures low { result * result ≤ self.n }
@@ -144,7 +144,7 @@ impl<const P: u32, const E: u32> Format<P, E> {
     ghost use Rattle.units.specs.Patterns.{meaning, whole_pattern, NearRoot, root_pattern};
 
     // The weight of the exponent's field.
-    fn hidden(self) -> u32
+    pub(crate) fn hidden(self) -> u32
         ensures { result ≡ Formats.hidden P }
     {
         1 << (P - 1)

@@ -25,9 +25,11 @@ fn number(v: i32) -> u32
     }
     let z = x.leading_zeros();
     let digits = significand(x, z) as u32;
-    SINGLE.signed(v < 0, (141 - z) * 0x80_0000 + digits)
+    SINGLE.signed(v < 0, (141 - z) * SINGLE.hidden() + digits)
 }
 
+// Half has an impl like this one. One for both takes two traits more, a law for number and some 70 lines, and its clauses name
+// members of a trait where these say 24 and 127.
 #[tactic(auto, using(crate::proofs::Rights::floats))]
 impl Unit for Single {
     ghost rules = { λ _. single };
