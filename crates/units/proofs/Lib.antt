@@ -6,5 +6,5 @@ mod Radicands
 pub mod Rights
 mod Scaling
 mod Shifts
-mod Sizes
+pub mod Sizes
 mod Wholes

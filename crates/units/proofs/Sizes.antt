@@ -19,3 +19,12 @@ sizes p e P E = record {
   most = mul-le (2 * e + 2) (hidden p) 256 (2 ^ 23) (omega arith) (pow_le (p - 1) 23 (omega arith));
   whole = mul-le e (hidden p) 256 (2 ^ 23) (omega arith) (pow_le (p - 1) 23 (omega arith));
 }
+
+pub sign_fits : (p e : ℕ) → p ≤ 24 → e ≤ 127 → (2 * e + 2) * hidden p ≤ 2 ^ 31
+sign_fits p e P E = (sizes p e P E).most
+
+pub infinity_fits : (p e : ℕ) → p ≤ 24 → e ≤ 127 → (2 * e + 1) * hidden p + hidden p ≤ 2 ^ 31
+infinity_fits p e P E = let z = sizes p e P E in omega arith
+
+-- what the code's sums and products of them ask
+pub ruleset fits = (sign_fits, infinity_fits)

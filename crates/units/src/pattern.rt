@@ -140,6 +140,7 @@ impl Radicand {
     }
 }
 
+#[tactic(auto, using(crate::proofs::Sizes::fits))]
 impl<const P: u32, const E: u32> Format<P, E> {
     ghost use Rattle.units.specs.Patterns.{meaning, whole_pattern, NearRoot, root_pattern};
 
