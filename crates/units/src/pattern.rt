@@ -85,7 +85,7 @@ fn low_bits(m: u32, k: u32) -> u32
 }
 
 // n / 2^s to the nearest whole number, a tie to the even one.
-pub(crate) fn closest(n: u64, s: u32) -> u64
+fn closest(n: u64, s: u32) -> u64
     requires { (n < 2 ^ 62) × (1 ≤ s) × (s < 62) }
     ensures { result ≡ Nearest.closest n (2 ^ s) }
 {
