@@ -1,25 +1,6 @@
 // Words of the half unit: published ones, edges of the format, and what is not a number.
+use crate::cases::{Pair, Word, check_numbers, check_pairs, check_words};
 use units::{Half, Unit};
-
-// Two words with their sum, difference, product and quotient.
-struct Pair {
-    a: u32,
-    b: u32,
-    sum: u32,
-    difference: u32,
-    product: u32,
-    quotient: u32,
-}
-
-// A word with what the functions of one word answer.
-struct Word {
-    a: u32,
-    floor: u32,
-    abs: u32,
-    sqrt: u32,
-    negative: bool,
-    level: i8,
-}
 
 const PAIRS: [Pair; 30] = [
     Pair {
@@ -596,30 +577,17 @@ const NUMBERS: [(i32, u32); 19] = [
 
 #[test]
 fn pairs(rt: HostRuntime) {
-    for p in PAIRS.iter() {
-        assert_eq!(rt; Half.add(p.a, p.b), p.sum);
-        assert_eq!(rt; Half.sub(p.a, p.b), p.difference);
-        assert_eq!(rt; Half.mul(p.a, p.b), p.product);
-        assert_eq!(rt; Half.div(p.a, p.b), p.quotient);
-    }
+    check_pairs(&rt, &Half, &PAIRS);
 }
 
 #[test]
 fn words(rt: HostRuntime) {
-    for w in WORDS.iter() {
-        assert_eq!(rt; Half.floor(w.a), w.floor);
-        assert_eq!(rt; Half.abs(w.a), w.abs);
-        assert_eq!(rt; Half.sqrt(w.a), w.sqrt);
-        assert_eq!(rt; Half.negative(w.a), w.negative);
-        assert_eq!(rt; Half.level(w.a), w.level);
-    }
+    check_words(&rt, &Half, &WORDS);
 }
 
 #[test]
 fn numbers(rt: HostRuntime) {
-    for (v, word) in NUMBERS {
-        assert_eq!(rt; Half.number(v), word);
-    }
+    check_numbers(&rt, &Half, &NUMBERS);
 }
 
 #[test]

@@ -4,6 +4,8 @@
 ghost use Rattle.unit_cases.specs.Worked.{HalfWords, SingleWords};
 
 #[cfg(test)]
+mod cases;
+#[cfg(test)]
 mod half_words;
 #[cfg(test)]
 mod single_words;

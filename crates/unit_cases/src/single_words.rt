@@ -1,25 +1,6 @@
 // Words of the single unit: published ones, edges of the format, and what is not a number.
-use units::{Single, Unit};
-
-// Two words with their sum, difference, product and quotient.
-struct Pair {
-    a: u32,
-    b: u32,
-    sum: u32,
-    difference: u32,
-    product: u32,
-    quotient: u32,
-}
-
-// A word with what the functions of one word answer.
-struct Word {
-    a: u32,
-    floor: u32,
-    abs: u32,
-    sqrt: u32,
-    negative: bool,
-    level: i8,
-}
+use crate::cases::{Pair, Word, check_numbers, check_pairs, check_words};
+use units::Single;
 
 const PAIRS: [Pair; 18] = [
     Pair {
@@ -420,28 +401,15 @@ const NUMBERS: [(i32, u32); 19] = [
 
 #[test]
 fn pairs(rt: HostRuntime) {
-    for p in PAIRS.iter() {
-        assert_eq!(rt; Single.add(p.a, p.b), p.sum);
-        assert_eq!(rt; Single.sub(p.a, p.b), p.difference);
-        assert_eq!(rt; Single.mul(p.a, p.b), p.product);
-        assert_eq!(rt; Single.div(p.a, p.b), p.quotient);
-    }
+    check_pairs(&rt, &Single, &PAIRS);
 }
 
 #[test]
 fn words(rt: HostRuntime) {
-    for w in WORDS.iter() {
-        assert_eq!(rt; Single.floor(w.a), w.floor);
-        assert_eq!(rt; Single.abs(w.a), w.abs);
-        assert_eq!(rt; Single.sqrt(w.a), w.sqrt);
-        assert_eq!(rt; Single.negative(w.a), w.negative);
-        assert_eq!(rt; Single.level(w.a), w.level);
-    }
+    check_words(&rt, &Single, &WORDS);
 }
 
 #[test]
 fn numbers(rt: HostRuntime) {
-    for (v, word) in NUMBERS {
-        assert_eq!(rt; Single.number(v), word);
-    }
+    check_numbers(&rt, &Single, &NUMBERS);
 }

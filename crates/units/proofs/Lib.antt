@@ -3,7 +3,8 @@ mod Decoded
 mod Halves
 mod Levels
 mod Radicands
-mod Rights
+pub mod Rights
 mod Scaling
 mod Shifts
+pub mod Sizes
 mod Wholes

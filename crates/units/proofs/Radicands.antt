@@ -8,7 +8,7 @@ use Rattle.ieee.specs.Formats.{hidden, infinity, low, steps, quiet, signed, fini
 use Rattle.ieee.specs.Rounding.{near, round_root, word}
 use Rattle.ieee.specs.Operations.{square_root}
 use Rattle.ieee.proofs.Roots.{root_near, lt_of_squares, four_pow}
-use Rattle.ieee.proofs.Steps.{hidden_pos, pow_double, pow_le, pow_join, steps_zero, steps_less, round_near, round_zero}
+use Rattle.ieee.proofs.Steps.{pow_double, pow_le, pow_join, steps_zero, steps_less, round_near, round_zero}
 use Rattle.units.specs.Patterns.{NearRoot, root_pattern}
 
 square_pow : (j : ℕ) → 2 ^ j * 2 ^ j ≡ 2 ^ (2 * j)
@@ -127,13 +127,6 @@ root_is p e m k d j n r x =
     let v : near p (root_twice (4 * (steps p m * 2 ^ low p e))) 4 ≡ j * hidden p + r =
     root_near p (steps p m * 2 ^ low p e) n j x.near_root.whole P s c.0 c.1 x.near_root.low x.near_root.high ∙ ap (λ (y : ℕ). j * hidden p + y) (sym x.near_root.value) in
     sym (round_near p e (root_twice (4 * (steps p m * 2 ^ low p e))) 4 (j * hidden p + r) v (root_bound p e m k d j n r x))
-
-pub exponent_bound : (p e m k d : ℕ) → 1 ≤ e → e ≤ 127 → m < infinity p e → m ≡ k * hidden p + d → (k ≡ 0) ⊎ (hidden p ≤ d) → k < 254
-exponent_bound p e m k d E B h s l = omega (arith, exponent_below p e m k d E h s l)
-
-pub digits_above : (p m k d : ℕ) → 0 < m → m ≡ k * hidden p + d → (k ≡ 0) ⊎ (hidden p ≤ d) → 0 < d
-digits_above p m k d M s (inl z) = omega (arith, ap (λ (x : ℕ). x * hidden p) z)
-digits_above p m k d M s (inr g) = omega (arith, hidden_pos p)
 
 -- ---- the square root of a finite value, by cases
 

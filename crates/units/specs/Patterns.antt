@@ -1,34 +1,16 @@
 -- What the clauses on patterns cite.
-use Rattle.std.specs.Prelude.{◌≡◌, ℕ, ◌+◌, ◌-◌, ◌*◌, ◌/◌, ◌^◌, ◌<◌, ◌≤◌, Bool, cond, not, ◌==◌, nat_le, nat_lt}
-use Rattle.ieee.specs.Formats.{not_number, infinite, finite, hidden, infinity, sign_weight, quiet, steps, low}
+use Rattle.std.specs.Prelude.{◌≡◌, ℕ, ◌+◌, ◌-◌, ◌*◌, ◌/◌, ◌^◌, ◌<◌, ◌≤◌, Bool, cond, ◌==◌, nat_le, nat_lt}
+use Rattle.ieee.specs.Formats.{not_number, infinite, finite, steps, low}
 use Rattle.ieee.specs.Rounding.{round, round_root}
 use Rattle.ieee.specs.Formats as Formats
-use Rattle.units.specs.declared.pattern.Format.{Format}
 use Rattle.units.specs.declared.pattern.Value.{Value}
 use Rattle.units.specs.declared.pattern.Value.TheVariants.{NotNumber, Infinite, Finite}
 
--- The fields fit together, and the sizes are such that the code's numbers hold them.
-pub record Describes (f : Format) : Type 0 where
-  pub least : 8 ≤ f.precision
-  pub most : f.precision ≤ 24
-  pub reach : f.precision ≤ f.greatest
-  pub bound : f.greatest ≤ 127
-  pub infinity_is : f.infinity ≡ infinity f.precision f.greatest
-  pub sign_is : f.sign ≡ sign_weight f.precision f.greatest
-  pub inside : f.infinity < f.sign
-  pub room : f.sign ≤ 2 ^ 31
-  pub quiet_is : f.quiet ≡ quiet f.precision f.greatest
-
-abbrev pub meaning : ℕ → Value → Formats.Value
-meaning p NotNumber = not_number
-meaning p (Infinite s) = infinite s
-meaning p (Finite s m) = finite s (steps p m)
-
--- a finite one's pattern lies below infinity's
-abbrev pub Below : ℕ → Value → Type 0
-Below i NotNumber = 0 ≤ 0
-Below i (Infinite s) = 0 ≤ 0
-Below i (Finite s m) = m < i
+-- what a value of the format (p, e) is
+abbrev pub meaning : (p e : ℕ) → Value p e → Formats.Value
+meaning p e NotNumber = not_number
+meaning p e (Infinite s) = infinite s
+meaning p e (Finite x) = finite x.negative (steps p x.pattern)
 
 -- the pattern of the whole number below a pattern's magnitude, or where `up` of the one above
 abbrev pub whole_pattern : ℕ → ℕ → Bool → ℕ → ℕ
@@ -44,11 +26,6 @@ pub record NearRoot (n r : ℕ) : Type 0 where
 
 abbrev pub root_pattern : ℕ → ℕ → ℕ → ℕ
 root_pattern p e m = round_root p e (steps p m * 2 ^ low p e)
-
-abbrev pub opposed : Value → Value
-opposed NotNumber = NotNumber
-opposed (Infinite s) = Infinite (not s)
-opposed (Finite s m) = Finite (not s) m
 
 -- four times r / d, cut to a whole number; what is cut off makes it odd
 abbrev pub quarters_below : ℕ → ℕ → ℕ

@@ -3,153 +3,111 @@ ghost use Rattle.std.specs.Prelude.{◌≡◌, ◌+◌, ◌*◌, ◌/◌, ◌%�
 ghost use Rattle.ieee.specs.Formats as Formats;
 ghost use Rattle.ieee.specs.Rounding as Rounding;
 ghost use Rattle.ieee.specs.Operations as Operations;
-ghost use Rattle.units.specs.Patterns.{meaning, Below, opposed, quarters_below};
+ghost use Rattle.units.specs.Patterns.{meaning, quarters_below};
 ghost use Rattle.ieee.specs.Laws.{Right, Floored, Levelled};
 ghost use Rattle.units.specs.Laws.{Twice};
 ghost use Rattle.units.specs.Rules.{half};
 
-use crate::pattern::{
-    Format, Magnitude, Value, abs, decode, floor, level, negative, parts_of, rounded, signed,
-    significand, sqrt,
-};
+use crate::pattern::{Finite, Format, Magnitude, Value, significand};
 use crate::unit::Unit;
 
 // It has nothing to remember.
-#[derive(Clone, Copy, Drop)]
+#[derive(Clone, Copy, PartialEq, Eq, Debug, Drop)]
 pub struct Half;
 
-const HALF: Format = Format {
-    precision: 11,
-    greatest: 15,
-    infinity: 0x7C00,
-    sign: 0x8000,
-    quiet: 0x7E00,
-};
-
-// How many smallest values a pattern stands for.
-fn count(m: u32) -> u64
-    requires { m < 0x7C00 }
-    ensures value { result ≡ Formats.steps 11 m }
-    ensures bound { result < 2 ^ 40 }
-{
-    let Magnitude { digits, exponent } = parts_of(11, m);
-    digits << exponent
-}
-
-// The word of a sign and a count of smallest values.
-fn word(s: bool, n: u64) -> u32
-    requires { n < 2 ^ 41 }
-    ensures { result ≡ Formats.signed 11 15 s (Rounding.round 11 15 n 1) }
-{
-    signed(HALF, s, rounded(HALF, 2 * n, 1))
-}
+const HALF: Format<11, 15> = Format {};
 
 // A sign and a count of smallest values.
-#[derive(Clone, Copy, Drop)]
+#[derive(Clone, Copy, PartialEq, Eq, Debug, Drop)]
 struct Exact {
     negative: bool,
     n: u64,
+    ghost bound: { n < 2 ^ 41 },
 }
 
-// The exact sum of two counts with their signs.
-fn exact_sum(s: bool, a: u64, t: bool, b: u64) -> Exact
-    requires { (a < 2 ^ 40) × (b < 2 ^ 40) }
-    ensures value { Rounding.fraction result.negative result.n 1 ≡ Operations.finite_sum s a t b }
-    ensures bound { result.n < 2 ^ 41 }
-{
-    if s == t {
-        Exact {
-            negative: s,
-            n: a + b,
-        }
-    } else if a < b {
-        Exact {
-            negative: t,
-            n: b - a,
-        }
-    } else {
-        Exact {
-            negative: s && b < a,
-            n: a - b,
-        }
+impl Finite<11, 15> {
+    // How many smallest values the magnitude is.
+    fn count(self) -> u64
+        ensures value { result ≡ Formats.steps 11 self.pattern }
+        ensures bound { result < 2 ^ 40 }
+    {
+        let Magnitude { digits, exponent } = HALF.parts_of(self.pattern);
+        digits << exponent
     }
 }
 
-// The sum of two finite values.
-fn finite_sum(s: bool, m: u32, t: bool, n: u32) -> u32
-    requires { (m < 0x7C00) × (n < 0x7C00) }
-    ensures { result ≡ Rounding.word 11 15 (Operations.finite_sum s (Formats.steps 11 m) t (Formats.steps 11 n)) }
-{
-    let Exact { negative, n } = exact_sum(s, count(m), t, count(n));
-    word(negative, n)
+impl Exact {
+    // The sum of two finite values.
+    fn sum(x: Finite<11, 15>, y: Finite<11, 15>) -> Exact
+        ensures { Rounding.fraction result.negative result.n 1 ≡ Operations.finite_sum x.negative (Formats.steps 11 x.pattern) y.negative (Formats.steps 11 y.pattern) }
+    {
+        let a = x.count();
+        let b = y.count();
+        if x.negative == y.negative {
+            Exact {
+                negative: x.negative,
+                n: a + b,
+            }
+        } else {
+            Exact {
+                negative: if a < b {
+                    y.negative
+                } else {
+                    x.negative && b < a
+                },
+                n: a.abs_diff(b),
+            }
+        }
+    }
+
+    // Its word.
+    fn word(self) -> u32
+        ensures { result ≡ Formats.signed 11 15 self.negative (Rounding.round 11 15 self.n 1) }
+    {
+        HALF.signed(self.negative, HALF.rounded(2 * self.n, 1))
+    }
 }
 
 // The word of a sum.
-fn sum(x: Value, y: Value) -> u32
-    requires { Below 0x7C00 x × Below 0x7C00 y }
-    ensures { result ≡ Rounding.word 11 15 (Operations.sum (meaning 11 x) (meaning 11 y)) }
+#[inline]
+fn sum(x: Value<11, 15>, y: Value<11, 15>) -> u32
+    ensures { result ≡ Rounding.word 11 15 (Operations.sum (meaning 11 15 x) (meaning 11 15 y)) }
 {
     match (x, y) {
-        (Value::Finite(s, m), Value::Finite(t, n)) => finite_sum(s, m, t, n),
-        (Value::Infinite(s), Value::Finite(_, _)) => signed(HALF, s, 0x7C00),
-        (Value::Finite(_, _), Value::Infinite(t)) => signed(HALF, t, 0x7C00),
-        (Value::Infinite(s), Value::Infinite(t)) => {
-            if s == t {
-                signed(HALF, s, 0x7C00)
-            } else {
-                0x7E00
-            }
-        }
-        (Value::NotNumber, _) => 0x7E00,
-        (_, Value::NotNumber) => 0x7E00,
-    }
-}
-
-// The value with the other sign.
-fn opposite(x: Value) -> Value
-    ensures { result ≡ opposed x }
-{
-    match x {
-        Value::NotNumber => Value::NotNumber,
-        Value::Infinite(s) => Value::Infinite(!s),
-        Value::Finite(s, m) => Value::Finite(!s, m),
+        (Value::Finite(x), Value::Finite(y)) => Exact::sum(x, y).word(),
+        (Value::Infinite(s), Value::Finite(_)) => HALF.endless(s),
+        (Value::Finite(_), Value::Infinite(t)) => HALF.endless(t),
+        (Value::Infinite(s), Value::Infinite(t)) => endless_unless(s != t, s),
+        (Value::NotNumber, _) | (_, Value::NotNumber) => HALF.quiet(),
     }
 }
 
 // The product of two finite values.
-fn finite_product(s: bool, m: u32, t: bool, n: u32) -> u32
-    requires { (m < 0x7C00) × (n < 0x7C00) }
-    ensures { result ≡ Formats.signed 11 15 (Operations.unlike s t) (Rounding.round 11 15 (Formats.steps 11 m * Formats.steps 11 n) (2 ^ 24)) }
+fn finite_product(x: Finite<11, 15>, y: Finite<11, 15>) -> u32
+    ensures { result ≡ Formats.signed 11 15 (Operations.unlike x.negative y.negative) (Rounding.round 11 15 (Formats.steps 11 x.pattern * Formats.steps 11 y.pattern) (2 ^ 24)) }
 {
-    let Magnitude {
-        digits: a,
-        exponent: x,
-    } = parts_of(11, m);
-    let Magnitude {
-        digits: b,
-        exponent: y,
-    } = parts_of(11, n);
-    let digits = 2 * (a * b);
-    let pattern = if x + y < 24 {
-        rounded(HALF, digits, 25 - (x + y))
+    let a = HALF.parts_of(x.pattern);
+    let b = HALF.parts_of(y.pattern);
+    let digits = 2 * (a.digits * b.digits);
+    let exponent = a.exponent + b.exponent;
+    let pattern = if exponent < 24 {
+        HALF.rounded(digits, 25 - exponent)
     } else {
-        rounded(HALF, digits << (x + y - 24), 1)
+        HALF.rounded(digits << (exponent - 24), 1)
     };
-    signed(HALF, s != t, pattern)
+    HALF.signed(x.negative != y.negative, pattern)
 }
 
 // The word of a product.
-fn product(x: Value, y: Value) -> u32
-    requires { Below 0x7C00 x × Below 0x7C00 y }
-    ensures { result ≡ Rounding.word 11 15 (Operations.product 24 (meaning 11 x) (meaning 11 y)) }
+fn product(x: Value<11, 15>, y: Value<11, 15>) -> u32
+    ensures { result ≡ Rounding.word 11 15 (Operations.product 24 (meaning 11 15 x) (meaning 11 15 y)) }
 {
     match (x, y) {
-        (Value::Finite(s, m), Value::Finite(t, n)) => finite_product(s, m, t, n),
-        (Value::Infinite(s), Value::Finite(t, n)) => endless_unless(n == 0, s != t),
-        (Value::Finite(s, m), Value::Infinite(t)) => endless_unless(m == 0, s != t),
-        (Value::Infinite(s), Value::Infinite(t)) => signed(HALF, s != t, 0x7C00),
-        (Value::NotNumber, _) => 0x7E00,
-        (_, Value::NotNumber) => 0x7E00,
+        (Value::Finite(x), Value::Finite(y)) => finite_product(x, y),
+        (Value::Infinite(s), Value::Finite(y)) => endless_unless(y.pattern == 0, s != y.negative),
+        (Value::Finite(x), Value::Infinite(t)) => endless_unless(x.pattern == 0, x.negative != t),
+        (Value::Infinite(s), Value::Infinite(t)) => HALF.endless(s != t),
+        (Value::NotNumber, _) | (_, Value::NotNumber) => HALF.quiet(),
     }
 }
 
@@ -174,38 +132,36 @@ fn quarters(n: u64, d: u64) -> u64
 }
 
 // The quotient of two finite values, the second not 0.
-fn finite_quotient(s: bool, m: u32, t: bool, n: u32) -> u32
-    requires { (m < 0x7C00) × (0 < n) × (n < 0x7C00) }
-    ensures { result ≡ Formats.signed 11 15 (Operations.unlike s t) (Rounding.round 11 15 (Formats.steps 11 m * 2 ^ 24) (Formats.steps 11 n)) }
+fn finite_quotient(x: Finite<11, 15>, y: Finite<11, 15>) -> u32
+    requires { 0 < y.pattern }
+    ensures { result ≡ Formats.signed 11 15 (Operations.unlike x.negative y.negative) (Rounding.round 11 15 (Formats.steps 11 x.pattern * 2 ^ 24) (Formats.steps 11 y.pattern)) }
 {
-    let a = count(m) << 24;
-    let b = count(n);
+    let a = x.count() << 24;
+    let b = y.count();
     let pattern = if b <= a >> 40 {
-        0x7C00
+        HALF.infinity()
     } else {
-        rounded(HALF, quarters(a, b), 2)
+        HALF.rounded(quarters(a, b), 2)
     };
-    signed(HALF, s != t, pattern)
+    HALF.signed(x.negative != y.negative, pattern)
 }
 
 // The word of a quotient.
-fn quotient(x: Value, y: Value) -> u32
-    requires { Below 0x7C00 x × Below 0x7C00 y }
-    ensures { result ≡ Rounding.word 11 15 (Operations.quotient 24 (meaning 11 x) (meaning 11 y)) }
+fn quotient(x: Value<11, 15>, y: Value<11, 15>) -> u32
+    ensures { result ≡ Rounding.word 11 15 (Operations.quotient 24 (meaning 11 15 x) (meaning 11 15 y)) }
 {
     match (x, y) {
-        (Value::Finite(s, m), Value::Finite(t, n)) => {
-            if n == 0 {
-                endless_unless(m == 0, s != t)
+        (Value::Finite(x), Value::Finite(y)) => {
+            if y.pattern == 0 {
+                endless_unless(x.pattern == 0, x.negative != y.negative)
             } else {
-                finite_quotient(s, m, t, n)
+                finite_quotient(x, y)
             }
         }
-        (Value::Infinite(s), Value::Finite(t, _)) => signed(HALF, s != t, 0x7C00),
-        (Value::Finite(s, _), Value::Infinite(t)) => signed(HALF, s != t, 0),
-        (Value::Infinite(_), Value::Infinite(_)) => 0x7E00,
-        (Value::NotNumber, _) => 0x7E00,
-        (_, Value::NotNumber) => 0x7E00,
+        (Value::Infinite(s), Value::Finite(y)) => HALF.endless(s != y.negative),
+        (Value::Finite(x), Value::Infinite(t)) => HALF.signed(x.negative != t, 0),
+        (Value::Infinite(_), Value::Infinite(_)) => HALF.quiet(),
+        (Value::NotNumber, _) | (_, Value::NotNumber) => HALF.quiet(),
     }
 }
 
@@ -213,11 +169,7 @@ fn quotient(x: Value, y: Value) -> u32
 fn endless_unless(none: bool, s: bool) -> u32
     ensures { result ≡ (if none then Formats.quiet 11 15 else Formats.signed 11 15 s (Formats.infinity 11 15)) }
 {
-    if none {
-        0x7E00
-    } else {
-        signed(HALF, s, 0x7C00)
-    }
+    if none { HALF.quiet() } else { HALF.endless(s) }
 }
 
 // v / 65536, rounded to single and then to half.
@@ -230,9 +182,10 @@ fn number(v: i32) -> u32
     }
     let z = x.leading_zeros();
     let digits = significand(x, z);
-    signed(HALF, v < 0, rounded(HALF, digits << 17, z + 1))
+    HALF.signed(v < 0, HALF.rounded(digits << 17, z + 1))
 }
 
+#[tactic(auto, using(crate::proofs::Rights::rights))]
 impl Unit for Half {
     ghost rules = { λ _. half };
 
@@ -249,7 +202,7 @@ impl Unit for Half {
         ensures right { Right 11 15 (Operations.sum (Formats.decode 11 15 a) (Formats.decode 11 15 b)) result }
         ensures width { result < 2 ^ 16 }
     {
-        sum(decode(HALF, a), decode(HALF, b))
+        sum(HALF.decode(a), HALF.decode(b))
     }
 
     fn sub(&self, a: u32, b: u32) -> u32
@@ -257,7 +210,7 @@ impl Unit for Half {
         ensures right { Right 11 15 (Operations.sum (Formats.decode 11 15 a) (Operations.opposite (Formats.decode 11 15 b))) result }
         ensures width { result < 2 ^ 16 }
     {
-        sum(decode(HALF, a), opposite(decode(HALF, b)))
+        sum(HALF.decode(a), -HALF.decode(b))
     }
 
     fn mul(&self, a: u32, b: u32) -> u32
@@ -265,7 +218,7 @@ impl Unit for Half {
         ensures right { Right 11 15 (Operations.product 24 (Formats.decode 11 15 a) (Formats.decode 11 15 b)) result }
         ensures width { result < 2 ^ 16 }
     {
-        product(decode(HALF, a), decode(HALF, b))
+        product(HALF.decode(a), HALF.decode(b))
     }
 
     fn div(&self, a: u32, b: u32) -> u32
@@ -273,7 +226,7 @@ impl Unit for Half {
         ensures right { Right 11 15 (Operations.quotient 24 (Formats.decode 11 15 a) (Formats.decode 11 15 b)) result }
         ensures width { result < 2 ^ 16 }
     {
-        quotient(decode(HALF, a), decode(HALF, b))
+        quotient(HALF.decode(a), HALF.decode(b))
     }
 
     fn floor(&self, a: u32) -> u32
@@ -281,7 +234,7 @@ impl Unit for Half {
         ensures right { Floored 11 15 (Formats.decode 11 15 a) result }
         ensures width { result < 2 ^ 16 }
     {
-        floor(HALF, decode(HALF, a))
+        HALF.floor(a)
     }
 
     fn abs(&self, a: u32) -> u32
@@ -289,7 +242,7 @@ impl Unit for Half {
         ensures right { Formats.decode 11 15 result ≡ Operations.unsigned (Formats.decode 11 15 a) }
         ensures width { result < 2 ^ 16 }
     {
-        abs(HALF, a)
+        HALF.abs(a)
     }
 
     fn sqrt(&self, a: u32) -> u32
@@ -297,19 +250,19 @@ impl Unit for Half {
         ensures right { Right 11 15 (Operations.square_root 24 (Formats.decode 11 15 a)) result }
         ensures width { result < 2 ^ 16 }
     {
-        sqrt(HALF, decode(HALF, a))
+        HALF.sqrt(a)
     }
 
     fn negative(&self, a: u32) -> bool
         ensures { result ≡ half.negative a }
     {
-        negative(HALF, a)
+        HALF.negative(a)
     }
 
     fn level(&self, a: u32) -> i8
         ensures rule { result ≡ half.level a }
         ensures right { Levelled 24 (Formats.decode 11 15 a) result }
     {
-        level(HALF, decode(HALF, a))
+        HALF.level(a)
     }
 }

@@ -5,21 +5,15 @@ ghost use Rattle.ieee.specs.Operations as Operations;
 ghost use Rattle.ieee.specs.Laws.{Right, Floored, Levelled};
 ghost use Rattle.units.specs.Rules.{single};
 
-use crate::pattern::{Format, abs, decode, floor, level, negative, signed, significand, sqrt};
+use crate::pattern::{Format, significand};
 use crate::unit::Unit;
 use std::num::{f32_from_bits_with_nan, f32_to_bits_with_nan};
 
 // It has nothing to remember.
-#[derive(Clone, Copy, Drop)]
+#[derive(Clone, Copy, PartialEq, Eq, Debug, Drop)]
 pub struct Single;
 
-const SINGLE: Format = Format {
-    precision: 24,
-    greatest: 127,
-    infinity: 0x7F80_0000,
-    sign: 0x8000_0000,
-    quiet: 0x7FC0_0000,
-};
+const SINGLE: Format<24, 127> = Format {};
 
 // v / 65536, rounded.
 fn number(v: i32) -> u32
@@ -31,9 +25,12 @@ fn number(v: i32) -> u32
     }
     let z = x.leading_zeros();
     let digits = significand(x, z) as u32;
-    signed(SINGLE, v < 0, (141 - z) * 0x80_0000 + digits)
+    SINGLE.signed(v < 0, (141 - z) * SINGLE.hidden() + digits)
 }
 
+// Half has an impl like this one. One for both takes two traits more, a law for number and some 70 lines, and its clauses name
+// members of a trait where these say 24 and 127.
+#[tactic(auto, using(crate::proofs::Rights::floats))]
 impl Unit for Single {
     ghost rules = { λ _. single };
 
@@ -76,33 +73,33 @@ impl Unit for Single {
         ensures rule { result ≡ single.floor a }
         ensures right { Floored 24 127 (Formats.decode 24 127 a) result }
     {
-        floor(SINGLE, decode(SINGLE, a))
+        SINGLE.floor(a)
     }
 
     fn abs(&self, a: u32) -> u32
         ensures rule { result ≡ single.abs a }
         ensures right { Formats.decode 24 127 result ≡ Operations.unsigned (Formats.decode 24 127 a) }
     {
-        abs(SINGLE, a)
+        SINGLE.abs(a)
     }
 
     fn sqrt(&self, a: u32) -> u32
         ensures rule { result ≡ single.sqrt a }
         ensures right { Right 24 127 (Operations.square_root 149 (Formats.decode 24 127 a)) result }
     {
-        sqrt(SINGLE, decode(SINGLE, a))
+        SINGLE.sqrt(a)
     }
 
     fn negative(&self, a: u32) -> bool
         ensures { result ≡ single.negative a }
     {
-        negative(SINGLE, a)
+        SINGLE.negative(a)
     }
 
     fn level(&self, a: u32) -> i8
         ensures rule { result ≡ single.level a }
         ensures right { Levelled 149 (Formats.decode 24 127 a) result }
     {
-        level(SINGLE, decode(SINGLE, a))
+        SINGLE.level(a)
     }
 }

@@ -2,12 +2,10 @@ use Rattle.units.proofs.half.product.Goals as goal
 use Rattle.std.proofs.Common.{◌∙◌}
 use Rattle.units.proofs.Halves.{product_left, product_right}
 
--- src/half.rt:124:1
 pub returns-in-Finite-Infinite : goal.returns-in-Finite-Infinite
-returns-in-Finite-Infinite c = rw (c.in-Finite-Infinite.is-0, c.in-Finite-Infinite.is-1) (c.endless_unless.ensures ∙ product_left c.in-Finite-Infinite.s c.in-Finite-Infinite.t c.in-Finite-Infinite.m)
+returns-in-Finite-Infinite c = rw (c.in-Finite-Infinite.is-0, c.in-Finite-Infinite.is-1) (c.endless_unless.ensures ∙ product_left c.in-Finite-Infinite.x.negative c.in-Finite-Infinite.t c.in-Finite-Infinite.x.pattern)
 
--- src/half.rt:124:1
 pub returns-in-Infinite-Finite : goal.returns-in-Infinite-Finite
 returns-in-Infinite-Finite c =
     rw (c.in-Infinite-Finite.is-0, c.in-Infinite-Finite.is-1)
-    (c.endless_unless-in-Infinite-Finite.ensures ∙ product_right c.in-Infinite-Finite.s c.in-Infinite-Finite.t c.in-Infinite-Finite.n)
+    (c.endless_unless-in-Infinite-Finite.ensures ∙ product_right c.in-Infinite-Finite.s c.in-Infinite-Finite.y.negative c.in-Infinite-Finite.y.pattern)

@@ -1,8 +1,0 @@
-use Rattle.units.proofs.half.word.Goals as goal
-use Rattle.std.proofs.Common.{sym, ap, ◌∙◌}
-use Rattle.ieee.specs.Formats.{signed}
-use Rattle.ieee.proofs.Scaled.{round_whole}
-
--- src/half.rt:47:1
-pub returns : goal.returns
-returns c = c.signed.ensures ∙ ap (signed 11 15 c.args.s) (c.rounded.ensures.value ∙ sym (round_whole 11 15 c.args.n))
