@@ -21,14 +21,9 @@ fn plain_numbers(rt: HostRuntime) -> Result<(), Fail> {
     let mut memory = [0xffffu16; 47];
     assert!(rt; Plain::over(&mut memory).count() == 2);
     put_plain(&mut memory, 1, &VALUES)?;
-    for (i, number) in memory.iter().enumerate() {
-        let expected = if 16 <= i && i < 32 {
-            VALUES[i - 16] % 4096
-        } else {
-            0xffff
-        };
-        assert_eq!(rt; *number, expected);
-    }
+    let mut expected = [0xffff; 47];
+    expected[16..32].copy_from_slice(&VALUES.map(|value| value % 4096));
+    assert_eq!(rt; memory, expected);
     Ok(())
 }
 
@@ -38,14 +33,9 @@ fn packed_bytes(rt: HostRuntime) -> Result<(), Fail> {
     let mut memory = [0xeeu8; 71];
     assert!(rt; Packed::over(&mut memory).count() == 2);
     put_packed(&mut memory, 1, &VALUES)?;
-    for (i, byte) in memory.iter().enumerate() {
-        let expected = if 24 <= i && i < 48 {
-            BYTES[i - 24]
-        } else {
-            0xee
-        };
-        assert_eq!(rt; *byte, expected);
-    }
+    let mut expected = [0xee; 71];
+    expected[24..48].copy_from_slice(&BYTES);
+    assert_eq!(rt; memory, expected);
     Ok(())
 }
 

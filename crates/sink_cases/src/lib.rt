@@ -5,7 +5,7 @@ ghost use Rattle.std.specs.Prelude.{◌≡◌};
 ghost use Rattle.sinks.specs.Memories.{written, plain_block, packed_bytes, packed_picture};
 ghost use Rattle.sinks.specs.Pictures.{after_put};
 
-use sinks::{Fault, Packed, Plain, Sink, put_then_get};
+use sinks::{Fault, Layout, Memory, Packed, Sink, put_then_get};
 
 #[cfg(test)]
 mod layout;
@@ -16,21 +16,32 @@ mod refusals;
 #[cfg(test)]
 mod splits;
 
-// Puts one block into a memory of numbers.
+// Puts one block into a memory of any layout.
+fn put_into<T: Layout<N>, const N: usize>(
+    memory: &mut [T],
+    place: usize,
+    colours: &[u16; 16],
+) -> Result<(), Fault>
+    ensures { memory.new ≡ written N place (T.cells colours.now) memory.old }
+{
+    Memory::over(memory).put(place, colours)
+}
+
+// The same into numbers, by the name of what they hold.
 pub(crate) fn put_plain(memory: &mut [u16], place: usize, colours: &[u16; 16]) -> Result<(), Fault>
     ensures { memory.new ≡ written 16 place (plain_block colours.now) memory.old }
 {
-    Plain::over(memory).put(place, colours)
+    put_into(memory, place, colours)
 }
 
-// Puts one block into a memory of bytes.
+// The same into bytes, by the name of what they hold.
 pub(crate) fn put_packed(bytes: &mut [u8], place: usize, colours: &[u16; 16]) -> Result<(), Fault>
     ensures { bytes.new ≡ written 24 place (packed_bytes colours.now) bytes.old }
 {
-    Packed::over(bytes).put(place, colours)
+    put_into(bytes, place, colours)
 }
 
-// The same through a function that takes any sink: the bytes hold what it leaves.
+// Into bytes through a function that takes any sink: they hold what it leaves.
 pub(crate) fn put_and_read(
     bytes: &mut [u8],
     place: usize,

@@ -23,8 +23,8 @@ fn refuses<S: Sink>(rt: &impl Abort, sink: &mut S) -> Result<(), Fail> {
 
 #[test]
 fn numbers(rt: HostRuntime) {
-    assert_eq!(rt; Fault::Place.number(), 13);
-    assert_eq!(rt; Fault::Lane.number(), 14);
+    assert_eq!(rt; u32::from(Fault::Place), 13);
+    assert_eq!(rt; u32::from(Fault::Lane), 14);
 }
 
 #[test]

@@ -4,22 +4,22 @@ use Rattle.std.specs.List.{range_with_len}
 use Rattle.sinks.specs.Pictures.{Picture, most_blocks, colour_of}
 
 -- how many whole parts a memory has, 19,200 at most
-abbrev pub count_in : ℕ → List ℕ → ℕ
+abbrev pub count_in : {A : Type 0} → ℕ → List A → ℕ
 count_in width memory = min (length memory / width) most_blocks
 
-abbrev pub part_at : ℕ → ℕ → List ℕ → List ℕ
+abbrev pub part_at : {A : Type 0} → ℕ → ℕ → List A → List A
 part_at width place memory = take width (drop (width * place) memory)
 
 -- each part read as a block
-unfoldable pub picture_in : ℕ → (List ℕ → List ℕ) → List ℕ → Picture
+unfoldable pub picture_in : {A : Type 0} → ℕ → (List A → List ℕ) → List A → Picture
 picture_in width read memory = record { blocks = map (λ place. read (part_at width place memory)) (range_with_len 0 (count_in width memory)) }
 
 -- the memory with just one part replaced
-unfoldable pub replaced : ℕ → ℕ → List ℕ → List ℕ → List ℕ
+unfoldable pub replaced : {A : Type 0} → ℕ → ℕ → List A → List A → List A
 replaced width place part memory = take (width * place) memory ++ (part ++ drop (width * place + width) memory)
 
 -- what a put leaves of the whole memory
-abbrev pub written : ℕ → ℕ → List ℕ → List ℕ → List ℕ
+abbrev pub written : {A : Type 0} → ℕ → ℕ → List A → List A → List A
 written width place part memory = cond (nat_lt place (count_in width memory)) (replaced width place part memory) memory
 
 -- a number for each lane

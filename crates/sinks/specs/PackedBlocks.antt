@@ -1,16 +1,29 @@
 -- Blocks of three bytes for each two lanes.
-use Rattle.std.specs.Prelude.{◌≡◌, ℕ, ◌+◌, ◌*◌, ◌/◌, ◌%◌, ◌<◌, List, map, length, ◌==◌, slice_index, slice_set}
-use Rattle.std.proofs.Common.{sym, subst, ◌∙◌, inl, inr, arith}
+use Rattle.std.specs.Prelude.{◌≡◌, ℕ, zero, suc, ◌+◌, ◌*◌, ◌/◌, ◌%◌, ◌<◌, List, [], map, length, drop, Some, None, ◌==◌, ◌≢◌, ◌≤◌, slice_get, slice_index, slice_index_or, slice_set}
+use Rattle.std.specs.Simd.{first_chunks}
+use Rattle.std.proofs.Common.{sym, subst, ◌∙◌, inl, inr, add-zero, arith}
 use Rattle.std.proofs.lemmas.List.FromFn.{length-map-range_with_len, get_or-map-range_with_len, fill_by_all}
 use Rattle.std.proofs.lemmas.List.Edits.{fill_by_more}
 use Rattle.std.proofs.ByRecursion.{All-from_get_or}
-use Rattle.std.proofs.lemmas.List.{length-map, length-set, get_or-map}
+use Rattle.std.proofs.lemmas.List.{length-map, length-set, get_or-map, get_or-take, get_or-drop}
+use Rattle.std.proofs.lemmas.Option.{slice_get-get_or, slice_get_past}
 use Rattle.std.proofs.lemmas.Bool.{cases_eq, cond_both}
 use Rattle.sinks.specs.Pictures.{GoodBlock, colour_of}
 use Rattle.sinks.specs.Memories.{packed_byte, packed_bytes, packed_lane, packed_block}
 
 lane_below : (bytes : List ℕ) (lane : ℕ) → packed_lane bytes lane < 4096
 lane_below bytes lane = cond_both (lane % 2 == 0) _ _ (λ x. x < 4096) (λ e. omega arith) (λ e. omega arith)
+
+chunk_of : (n k : ℕ) (xs : List ℕ) (j i : ℕ) → j < k → i < n → slice_index (slice_index_or (first_chunks n k xs) j []) i ≡ slice_index xs (n * j + i)
+chunk_of n zero xs j i h l = absurd (omega arith)
+chunk_of n (suc k) xs zero i h l = let z : n * 0 + i ≡ i = omega arith in rw z (get_or-take n xs i 0 l)
+chunk_of n (suc k) xs (suc j) i h l =
+    let e : n * suc j + i ≡ n + (n * j + i) = omega arith in
+    rw e (chunk_of n k (drop n xs) j i (omega arith) l ∙ get_or-drop n xs (n * j + i) 0)
+
+-- an element of one of the chunks that `as_chunks` gives
+pub chunk_at : (n : ℕ) (xs : List ℕ) (chunks : List (List ℕ)) (j i : ℕ) → chunks ≡ first_chunks n (length xs / n) xs → j < length xs / n → i < n → slice_index (slice_index_or chunks j []) i ≡ slice_index xs (n * j + i)
+chunk_at n xs chunks j i e h l = rw e (chunk_of n (length xs / n) xs j i h l)
 
 pub packed_good : (part : List ℕ) → length part ≡ 24 → GoodBlock (packed_block part)
 unfolding packed_block
@@ -55,6 +68,25 @@ lane_back values lane h =
 pub lane_at : (bytes : List ℕ) (lane : ℕ) → lane < 16 → slice_index (packed_block bytes) lane ≡ packed_lane bytes lane
 unfolding packed_block
 lane_at bytes lane h = get_or-map-range_with_len (packed_lane bytes) 0 16 lane lane 0 h (omega arith)
+
+pub no_lane : (bytes : List ℕ) (lane : ℕ) → 16 ≤ lane → None ≡ slice_get (packed_block bytes) lane
+unfolding packed_block
+no_lane bytes lane h = sym (slice_get_past (packed_block bytes) lane (omega (arith, length-map-range_with_len (packed_lane bytes) 0 16)))
+
+-- a lane lies in the three bytes of its pair
+module _ (bytes : List ℕ) (chunks : List (List ℕ)) (three : List ℕ) (lane : ℕ) (l : length bytes ≡ 24) (front : chunks ≡ first_chunks 3 (length bytes / 3) bytes) (h : lane < 16) (here : three ≡ slice_index_or chunks (lane / 2) []) (fits : (i : ℕ) → slice_index bytes i < 256) where
+  byte : (i : ℕ) → i < 3 → slice_index three i ≡ slice_index bytes (3 * (lane / 2) + i)
+  byte i k = rw here (chunk_at 3 bytes chunks (lane / 2) i front (omega arith) k)
+
+  some_lane : (colour : ℕ) → colour ≡ packed_lane bytes lane → Some colour ≡ slice_get (packed_block bytes) lane
+  unfolding packed_block
+  some_lane colour e = rw (e, ← lane_at bytes lane h) (sym (slice_get-get_or (packed_block bytes) lane 0 (omega (arith, length-map-range_with_len (packed_lane bytes) 0 16))))
+
+  pub lane_low : lane % 2 ≡ 0 → Some (slice_index three 0 + slice_index three 1 % 16 * 256) ≡ slice_get (packed_block bytes) lane
+  lane_low e = some_lane _ (rw (byte 0 (omega arith), byte 1 (omega arith), e, add-zero) (omega (arith, fits (3 * (lane / 2)), fits (3 * (lane / 2) + 1))))
+
+  pub lane_high : lane % 2 ≢ 0 → Some (slice_index three 1 / 16 + slice_index three 2 * 16) ≡ slice_get (packed_block bytes) lane
+  lane_high n = let e : lane % 2 ≡ 1 = omega arith in some_lane _ (rw (byte 1 (omega arith), byte 2 (omega arith), e) (omega (arith, fits (3 * (lane / 2) + 1), fits (3 * (lane / 2) + 2))))
 
 pub packed_back : (values : List ℕ) → length values ≡ 16 → packed_block (packed_bytes values) ≡ map colour_of values
 unfolding packed_block

@@ -1,8 +1,5 @@
 // Why a sink refuses, with its number.
-ghost use Rattle.std.specs.Prelude.{◌≡◌};
-ghost use Rattle.sinks.specs.Faults.{number_of};
-
-#[derive(Clone, Copy, PartialEq, Debug)]
+#[derive(Clone, Copy, PartialEq, Eq, Debug)]
 pub enum Fault {
     // no block has this place
     Place,
@@ -10,12 +7,15 @@ pub enum Fault {
     Lane,
 }
 
-impl Fault {
+impl From<Fault> for u32 {
+    ghost use Rattle.std.specs.Prelude.{◌≡◌};
+    ghost use Rattle.sinks.specs.Faults.{number_of};
+
+    ghost from_gives = { λ fault number. number ≡ number_of fault };
+
     // The number of the refusal.
-    pub fn number(self) -> u32
-        ensures { result ≡ number_of self }
-    {
-        match self {
+    fn from(fault: Fault) -> u32 {
+        match fault {
             Fault::Place => 13,
             Fault::Lane => 14,
         }

@@ -3,6 +3,8 @@
 
 mod fault;
 mod law;
+mod layout;
+mod memory;
 mod packed;
 mod plain;
 mod sink;
@@ -10,6 +12,8 @@ mod split;
 
 pub use fault::Fault;
 pub use law::{put_both, put_then_get, put_twice};
+pub use layout::Layout;
+pub use memory::Memory;
 pub use packed::Packed;
 pub use plain::Plain;
 pub use sink::{MOST, Pictured, Sink};

@@ -1,7 +1,7 @@
 // What a sink is: at most 19,200 blocks of sixteen 12-bit colours.
-ghost use Rattle.std.specs.Prelude.{◌≡◌, ◌/◌, ◌<◌, min, List};
+ghost use Rattle.std.specs.Prelude.{◌≡◌, List};
 ghost use Rattle.std.specs.Borrow.{GName};
-ghost use Rattle.sinks.specs.Pictures.{Picture, Good, Put, most_blocks, block_count, get_answer};
+ghost use Rattle.sinks.specs.Pictures.{Picture, Good, Put, block_count, get_answer};
 
 use crate::fault::Fault;
 
@@ -32,12 +32,4 @@ pub trait Sink: Pictured {
     // The colour of a lane of a block.
     fn get(&self, place: usize, lane: usize) -> Result<u16, Fault>
         ensures { result ≡ get_answer (Self.Pictured.picture self.now) place lane };
-}
-
-// How many whole blocks there are in so much memory.
-pub(crate) fn blocks_in(length: usize, width: usize) -> usize
-    requires { 0 < width }
-    ensures { result ≡ min (length / width) most_blocks }
-{
-    (length / width).min(MOST)
 }
