@@ -48,7 +48,7 @@ impl fmt::Display for Refusal {
     }
 }
 
-// The digit for the low four bits of a value.
+// The digit for the low four bits of a value. Not by `{:x}`, since a line of a word asks for no memory and cannot fail.
 fn hex_digit(value: u32) -> u8
     ensures digit { result ≡ hex_digit (value % 16) }
     ensures stands { (LowerHex result) × (hex_value result ≡ value % 16) }
