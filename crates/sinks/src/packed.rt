@@ -18,7 +18,7 @@ impl Layout<24> for u8 {
 
     ghost good_block = { packed_good };
 
-    // By index, since nothing is known of bytes that are written through chunks.
+    // The bytes by index: of bytes written through chunks nothing is known.
     fn write(block: &mut [u8; 24], colours: &[u16; 16]) {
         for (pair, [first, second]) in colours.as_chunks::<2>().0.iter().enumerate() {
             let first = first % 4096;

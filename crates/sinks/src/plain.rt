@@ -17,6 +17,7 @@ impl Layout<16> for u16 {
 
     ghost good_block = { plain_good };
 
+    // Copied and then cut: of numbers written through a zip nothing is known, and a map of the array takes over ten times as long.
     fn write(block: &mut [u16; 16], colours: &[u16; 16]) {
         *block = *colours;
         for number in block {
