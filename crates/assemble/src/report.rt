@@ -2,7 +2,7 @@
 ghost use Rattle.std.specs.Prelude.{IfOk};
 ghost use Rattle.assemble.specs.Prints.{Prints};
 
-use listing::{refusal_line, word_lines};
+use listing::{Refusal, refusal_line, word_lines};
 use std::alloc::{AllocError, Global};
 use text::{Label, assemble};
 
@@ -27,7 +27,7 @@ pub fn report_on(heap: Global, text: &[u8]) -> Result<Report, AllocError>
             let used = counts.words;
             Ok(Report::Words(word_lines(heap, &words[0..used])?))
         }
-        Err(fault) => Ok(Report::Refused(refusal_line(heap, &fault.refusal())?)),
+        Err(fault) => Ok(Report::Refused(refusal_line(heap, &Refusal::from(fault))?)),
     }
 }
 

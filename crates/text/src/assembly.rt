@@ -66,10 +66,7 @@ fn is_free(text: &[u8], labels: &[Label], label: Option<&[u8]>) -> bool
     requires { AllByRecursion (Within text.now) labels.now }
     ensures { Decides result (Fresh text.now labels.now (option_map (λ x. x.now) label.entry)) }
 {
-    match label {
-        Some(name) => address_of(text, labels, name).is_none(),
-        None => true,
-    }
+    label.is_none_or(|name| address_of(text, labels, name).is_none())
 }
 
 // Whether there is a place for the word and the label of a line.
@@ -111,11 +108,9 @@ fn count(counts: Counts, said: Line) -> Counts
     requires { (counts.words < 2 ^ 32) × (counts.labels < 2 ^ 32) }
     ensures { result ≡ counted counts said.entry }
 {
-    let words = if said.code.is_some() { 1 } else { 0 };
-    let labels = if said.label.is_some() { 1 } else { 0 };
     Counts {
-        words: counts.words + words,
-        labels: counts.labels + labels,
+        words: counts.words + usize::from(said.code.is_some()),
+        labels: counts.labels + usize::from(said.label.is_some()),
     }
 }
 
@@ -160,10 +155,7 @@ fn first_reading(text: &[u8], room: usize, labels: &mut [Label]) -> Result<Count
 fn code_of<'a>(bytes: &'a [u8], line: u32) -> Option<Instruction<'a>>
     ensures { CodeIn bytes.now result }
 {
-    match read_line(bytes, line) {
-        Some(said) => said.code,
-        None => None,
-    }
+    read_line(bytes, line)?.code
 }
 
 // Writes a word, if the reading is one that writes.

@@ -5,7 +5,7 @@ ghost use Rattle.std.specs.Str.{bytes_eq};
 ghost use Rattle.text.specs.Table.{name_in, address_of, Within};
 
 // A label: where its name stands in the text, how long it is, and how many words come before it.
-#[derive(Clone, Copy, PartialEq, Debug)]
+#[derive(Clone, Copy, PartialEq, Eq, Debug)]
 pub struct Label {
     pub place: usize,
     pub length: usize,
@@ -13,7 +13,7 @@ pub struct Label {
 }
 
 // How many words and labels a text has.
-#[derive(Clone, Copy, PartialEq, Debug)]
+#[derive(Clone, Copy, PartialEq, Eq, Debug)]
 pub struct Counts {
     pub words: usize,
     pub labels: usize,

@@ -1,5 +1,5 @@
 // The words of instructions: 20 bits, unused ones 0.
-ghost use Rattle.std.specs.Prelude.{◌≡◌, ◌^◌, ◌<◌, ◌≤◌};
+ghost use Rattle.std.specs.Prelude.{◌≡◌, ◌≤◌};
 ghost use Rattle.grammar.specs.Forms.{ins, Formed};
 ghost use Rattle.grammar.specs.Grammar.{opd};
 ghost use Rattle.text.specs.Words.{binary_code, unary_code, value, packed, word_of};

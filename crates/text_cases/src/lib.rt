@@ -31,7 +31,7 @@ pub(crate) fn answer(
 {
     match assemble(text, words, labels) {
         Ok(counts) => Ok((counts.words, counts.labels)),
-        Err(fault) => Err(fault.refusal()),
+        Err(fault) => Err(Refusal::from(fault)),
     }
 }
 

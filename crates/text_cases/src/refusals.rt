@@ -1,6 +1,7 @@
 // Texts that are refused, with the number and the line.
 use crate::expect::{at_line, is_foreign, refused};
 use crate::wrong::{Wrong, noted};
+use listing::Refusal;
 use std::alloc::Global;
 use std::test::Fail;
 use text::Fault;
@@ -205,9 +206,12 @@ fn unknown_labels() -> Result<(), Wrong> {
 
 #[test]
 fn numbers_of_the_faults(rt: HostRuntime) {
-    assert_eq!(rt; Fault::TooLong.refusal(), at_line(20, 0));
-    assert_eq!(rt; Fault::Grammar(1).refusal(), at_line(21, 1));
-    assert_eq!(rt; Fault::Twice(2).refusal(), at_line(22, 2));
-    assert_eq!(rt; Fault::NoRoom(65536).refusal(), at_line(23, 65536));
-    assert_eq!(rt; Fault::Unknown(u32::MAX).refusal(), at_line(24, u32::MAX));
+    assert_eq!(rt; Refusal::from(Fault::TooLong), at_line(20, 0));
+    assert_eq!(rt; Refusal::from(Fault::Grammar(1)), at_line(21, 1));
+    assert_eq!(rt; Refusal::from(Fault::Twice(2)), at_line(22, 2));
+    assert_eq!(rt; Refusal::from(Fault::NoRoom(65536)), at_line(23, 65536));
+    assert_eq!(rt;
+        Refusal::from(Fault::Unknown(u32::MAX)),
+        at_line(24, u32::MAX)
+    );
 }

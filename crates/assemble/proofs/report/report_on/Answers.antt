@@ -13,4 +13,4 @@ returns-in_ok-word_lines-in-Ok c =
     (c.in-Ok.counts, (c.assemble.new.words, (c.assemble.new.labels, c.in-Ok.ensures.outcome, from_start (λ l. vec_items c.in_ok-word_lines-in-Ok.field-0 ≡ flat_map word_line l) c.assemble.new.words c.in-Ok.counts.words c.in_ok-word_lines-in-Ok.ensures)))
 
 pub returns-in_ok-refusal_line-in-Err : goal.returns-in_ok-refusal_line-in-Err
-returns-in_ok-refusal_line-in-Err c = (c.in-Err.fault, (c.assemble.new.words, (c.assemble.new.labels, c.in-Err.ensures.outcome, rw c.refusal.ensures at c.in_ok-refusal_line-in-Err.ensures)))
+returns-in_ok-refusal_line-in-Err c = (c.in-Err.fault, (c.assemble.new.words, (c.assemble.new.labels, c.in-Err.ensures.outcome, rw c.from.ensures at c.in_ok-refusal_line-in-Err.ensures)))

@@ -3,8 +3,8 @@ use Rattle.grammar.proofs.Readings.{says_one}
 use Rattle.text.proofs.SecondPass.{formed_code}
 use Rattle.text.proofs.assembly.code_of.Goals as goal
 
-pub returns-in-Some : goal.returns-in-Some
-returns-in-Some c =
-    let said = c.in-Some.said in
-    let told = c.in-Some.ensures.reading in
+pub returns : goal.returns
+returns c =
+    let said = c.in_ok-read_line.field-0 in
+    let told = c.in_ok-read_line.ensures.reading in
     (formed_code said.code told.formed, λ label code s. (says_one c.args.bytes.now label (label_in said) code (code_in said) s told).1)
