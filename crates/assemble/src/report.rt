@@ -25,7 +25,7 @@ pub fn report_on(heap: Global, text: &[u8]) -> Result<Report, AllocError>
     match assemble(text, &mut words, &mut labels) {
         Ok(counts) => {
             let used = counts.words;
-            Ok(Report::Words(word_lines(heap, &words[0..used])?))
+            Ok(Report::Words(word_lines(heap, &words[..used])?))
         }
         Err(fault) => Ok(Report::Refused(refusal_line(heap, &Refusal::from(fault))?)),
     }

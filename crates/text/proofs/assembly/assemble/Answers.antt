@@ -1,7 +1,7 @@
 use Rattle.std.proofs.Common.{sym, refl, ◌∙◌, rules}
 use Rattle.std.proofs.lemmas.Result.{err_from_is_err_and}
 use Rattle.std.proofs.lemmas.Bool.{ltb-true}
-use Rattle.text.proofs.Endings.{inside, ready, lost, done, settled}
+use Rattle.text.proofs.Endings.{inside, within, ready, lost, done, settled}
 use Rattle.text.proofs.assembly.assemble.Goals as goal
 
 pub returns-then-is_too_long : goal.returns-then-is_too_long
@@ -18,6 +18,10 @@ pub slice_bounds-table-end : goal.slice_bounds-table-end
 slice_bounds-table-end c =
     let fits = inside c.args.text.now c.args.words.now c.args.labels.now c.first_reading.new.labels c.in_ok-counts.counts c.in_ok-counts.ensures in
     search rules
+
+pub invariant_of-table : goal.invariant_of-table
+invariant_of-table c =
+    record { within = within c.args.text.now c.args.words.now c.args.labels.now c.first_reading.new.labels c.in_ok-counts.counts c.in_ok-counts.ensures }
 
 pub write_words-requires : goal.write_words-requires
 write_words-requires c =
