@@ -1,5 +1,5 @@
 -- The two readings together: every text has its outcome.
-use Rattle.std.proofs.Common.{◌≡◌, ℕ, ◌≤◌, List, length, take, drop, Ok, Err, Result, sym, ap, ◌∙◌, arith, length-append}
+use Rattle.std.proofs.Common.{◌≡◌, ℕ, List, length, take, Ok, Err, Result, sym, ap, ◌∙◌}
 use Rattle.std.specs.List.{All}
 use Rattle.std.proofs.lemmas.List.{take_at}
 use Rattle.text.specs.declared.fault.Fault.{Fault}
@@ -8,7 +8,7 @@ use Rattle.text.specs.declared.table.Counts.{Counts}
 use Rattle.text.specs.declared.table.Label.{Label}
 use Rattle.text.specs.Table.{Within}
 use Rattle.text.specs.Outcome.{State, Whole, Outcome, OneOutcome}
-use Rattle.text.specs.Passes.{FirstRead, Ready, WordsRead}
+use Rattle.text.specs.Passes.{FirstRead, WordsRead}
 use Rattle.text.specs.Plain.{GivesBack}
 use Rattle.text.specs.Words.{WordFields}
 use Rattle.text.proofs.FirstPass.{lines_within}
@@ -21,14 +21,8 @@ module _ (text words : List ℕ) (labels labels' : List Label) (c : Counts) (h :
   table_is : take c.labels labels' ≡ h.0.defs
   table_is = ap (take c.labels) h.4 ∙ take_at h.0.defs _ c.labels (sym h.3)
 
-  pub inside : c.labels ≤ length labels'
-  inside = omega (arith, h.3, ap length h.4, length-append h.0.defs (drop (length h.0.defs) labels))
-
   pub within : All (Within text) (take c.labels labels')
   within = rw table_is (lines_within text (length words) (length labels) h.1.count h.0 h.1.lines)
-
-  pub ready : Ready text (length words) (take c.labels labels')
-  ready = (h.0, (length labels, h.1, table_is))
 
   module _ (words' : List ℕ) where
     pub lost : (f : Fault) → ((s : State) (L : ℕ) → Whole text (length words) L s → take c.labels labels' ≡ s.defs → WordsRead text s (Err f) words words') → Outcome text words labels (Err f) words' labels'

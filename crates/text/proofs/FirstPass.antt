@@ -1,11 +1,9 @@
 -- The first reading: the lines so far are good, and their labels are entered.
-use Rattle.std.proofs.Common.{◌≡◌, ℕ, suc, ◌+◌, ◌<◌, ◌≤◌, List, [], ◌∷◌, ◌++◌, length, take, drop, Some, None, Ok, Err, Option, sym, refl, ap, ◌∙◌, subst, ap₂, append_assoc, arith, length-append, length-drop}
+use Rattle.std.proofs.Common.{◌≡◌, ℕ, suc, ◌+◌, ◌≤◌, List, [], ◌∷◌, ◌++◌, length, take, drop, Some, None, Ok, Option, sym, refl, ap, ◌∙◌, subst, ap₂, append_assoc, arith, length-append}
 use Rattle.std.proofs.lemmas.List.{take_at, drop_at, drop-drop}
 use Rattle.std.proofs.ByRecursion.{All-append}
 use Rattle.std.proofs.lemmas.List.Elements.{All-from_recursion}
 use Rattle.std.specs.List.{prefix_len, All, AllByRecursion}
-use Rattle.text.specs.declared.fault.Fault.{Fault}
-use Rattle.text.specs.declared.fault.Fault.TheVariants.{TooLong, Grammar, Twice, NoRoom, Unknown}
 use Rattle.grammar.specs.declared.line.Line.{Line}
 use Rattle.text.specs.declared.lines.TextLine.{TextLine}
 use Rattle.text.specs.declared.table.Counts.{Counts}
@@ -15,10 +13,10 @@ use Rattle.grammar.specs.Bytes.{goes_on}
 use Rattle.grammar.specs.Forms.{Ins}
 use Rattle.grammar.specs.Lines.{Says, label_in, code_in}
 use Rattle.text.specs.Table.{Within}
-use Rattle.text.specs.Outcome.{LineAt, State, start, size, labelled, defined, coded, Fresh, Places, Room, after, Lines, none, then, entered, Stopped}
+use Rattle.text.specs.Outcome.{LineAt, State, start, size, labelled, defined, coded, Fresh, Places, Room, after, Lines, none, then, entered}
 use Rattle.grammar.proofs.Fronts.{label_place}
 use Rattle.text.specs.Lines.{IsLine}
-use Rattle.text.specs.Passes.{Checked, counted, FirstRead}
+use Rattle.text.specs.Passes.{Checked, counted}
 
 -- the lines before place `at` are good, and counts and table stand for what they left
 pub record Sofar (text : List ℕ) (W : ℕ) (old : List Label) (at line : ℕ) (c : Counts) (labels : List Label) : Type 0 where
@@ -80,21 +78,13 @@ module _ {text : List ℕ} {W : ℕ} {old : List Label} {at line : ℕ} {c : Cou
   front_is : take c.labels labels ≡ h.state.defs
   front_is = ap (take c.labels) h.table ∙ take_at h.state.defs _ c.labels (sym h.labels_are)
 
-  long_is : length labels ≡ length old
-  long_is =
-      let r = h.room.1 in
-      ap length h.table ∙ simp (length-append, length-drop) (omega arith)
-
   -- what is behind the labels stays
   behind : (k : ℕ) → drop (c.labels + k) labels ≡ drop (length h.state.defs + k) old
   behind k =
       let front = h.state.defs in
       sym (drop-drop k c.labels labels) ∙ ap (drop k) (ap (drop c.labels) h.table ∙ drop_at front _ c.labels (sym h.labels_are)) ∙ drop-drop k (length front) old
 
-  -- the labels that are entered, as the code takes them, have their names in the text
-  pub inside : c.labels ≤ length labels
-  inside = let r = h.room.1 in omega (arith, long_is, h.labels_are)
-
+  -- the labels that are entered have their names in the text
   pub within : All (Within text) (take c.labels labels)
   within = rw front_is (lines_within text W (length old) line h.state h.lines)
 
@@ -102,40 +92,8 @@ module _ {text : List ℕ} {W : ℕ} {old : List Label} {at line : ℕ} {c : Cou
   fresh_there : (label : Option (List ℕ)) → Fresh text (take c.labels labels) label → Fresh text h.state.defs label
   fresh_there label f = subst (λ l. Fresh text l label) front_is f
 
-  fresh_back : (label : Option (List ℕ)) → Fresh text h.state.defs label → Fresh text (take c.labels labels) label
-  fresh_back label f = subst (λ l. Fresh text l label) (sym front_is) f
-
-  room_back : (label : Option (List ℕ)) (code : Option Ins) → Room W (length old) h.state label code → Places W (length old) c.words c.labels label code
-  room_back label code r = (omega (arith, h.words_are, r.0), omega (arith, h.labels_are, r.1))
-
   room_there : (label : Option (List ℕ)) (code : Option Ins) → Places W (length old) c.words c.labels label code → Room W (length old) h.state label code
   room_there label code r = (omega (arith, h.words_are, r.0), omega (arith, h.labels_are, r.1))
-
-  -- the first reading ends at a line that is not good
-  stopped : (Why : State → List ℕ → Type 0) (bytes words : List ℕ) (m : ℕ) → length text ≤ 65535 → LineAt text at bytes → length words ≡ W → m ≡ suc line → Why h.state bytes → Stopped text words old m words labels Why
-  stopped Why bytes words m short t w e why = record {
-    short = short;
-    before = line;
-    state = h.state;
-    bytes = bytes;
-    number = e;
-    lines = subst (λ k. Lines text k (length old) line h.state) (sym w) h.lines;
-    there = subst (λ k. LineAt text k bytes) h.at_is t;
-    why = why;
-    words_stay = refl;
-    labels_are = h.table;
-  }
-
-  pub stops : (x : TextLine) (f : Fault) → length text ≤ 65535 → IsLine text at (line + 1) x → Checked text W (length old) (take c.labels labels) c x.bytes.now x.number (Err f) → FirstRead text W old (Err f) labels
-  stops x TooLong short t k words w = absurd k
-  stops x (Grammar m) short t k words w = stopped _ x.bytes.now words m short t.there w (omega (arith, k.0, t.number_is)) k.1
-  stops x (Twice m) short t k words w =
-      let (label, more) = k.1 in
-      stopped _ x.bytes.now words m short t.there w (omega (arith, k.0, t.number_is)) (label, (more.0, more.1, λ f. more.2 (fresh_back label f)))
-  stops x (NoRoom m) short t k words w =
-      let (label, more) = k.1 in
-      stopped _ x.bytes.now words m short t.there w (omega (arith, k.0, t.number_is)) (label, (more.0, more.1, fresh_there label more.2, λ r. more.3 (room_back label more.0 (subst (λ v. Room v (length old) h.state label more.0) w r))))
-  stops x (Unknown m) short t k words w = absurd k
 
   -- one more good line
   pub goes_on_lem : (x : TextLine) (said : Line) (place : ℕ) (labels' : List Label) → IsLine text at (line + 1) x → Checked text W (length old) (take c.labels labels) c x.bytes.now x.number (Ok said) → place ≡ x.place + prefix_len (goes_on run.Spaces) x.bytes.now → labels' ≡ take c.labels labels ++ (labelled place c.words (label_in said) ++ drop (c.labels + size (label_in said)) labels) → (to n : ℕ) → to ≡ at + length x.bytes.now + 1 → n ≡ line + 1 → Sofar text W old to n (counted c said) labels'
@@ -163,13 +121,3 @@ module _ {text : List ℕ} {W : ℕ} {old : List Label} {at line : ℕ} {c : Cou
         room = (omega (arith, fit.0, more, size_coded (suc line) code), omega (arith, fit.1, long, short));
         few = (omega (arith, h.few.0, more, size_coded (suc line) code, size_most code), omega (arith, h.few.1, long, short, size_most label));
       }
-
-  -- all lines are good
-  pub ends : length text ≤ 65535 → length text < at → at ≤ length text + 1 → FirstRead text W old (Ok c) labels
-  ends short past last = (
-    h.state,
-    record { short = short; count = line; lines = h.lines; ended = omega (arith, h.at_is) },
-    h.words_are,
-    h.labels_are,
-    h.table,
-  )

@@ -185,23 +185,23 @@ fn lines_outside_the_grammar(rt: HostRuntime) -> Result<(), Fail> {
 
 #[test]
 fn labels_twice() -> Result<(), Wrong> {
-    refused(b"x:\nx:", 22, 2)?;
-    refused(b"x:nop\n\n;c\n x : done", 22, 4)?;
-    refused(b"a:\nb:\nb:\na:", 22, 3)?;
-    refused(b"x:\nX:\nx:", 22, 3)?;
-    refused(b"abcdefghijklmnop:\nabcdefghijklmnop:", 22, 2)?;
-    refused(b"nop:nop\nnop:nop\nfoo", 22, 2)
+    refused(b"x:\nx:", at_line(22, 2))?;
+    refused(b"x:nop\n\n;c\n x : done", at_line(22, 4))?;
+    refused(b"a:\nb:\nb:\na:", at_line(22, 3))?;
+    refused(b"x:\nX:\nx:", at_line(22, 3))?;
+    refused(b"abcdefghijklmnop:\nabcdefghijklmnop:", at_line(22, 2))?;
+    refused(b"nop:nop\nnop:nop\nfoo", at_line(22, 2))
 }
 
 #[test]
 fn unknown_labels() -> Result<(), Wrong> {
-    refused(b"loop x", 24, 1)?;
-    refused(b"nop\nbltz $0,b\nloop a", 24, 2)?;
-    refused(b"x:loop x\n\nbltz $1,X\nloop y", 24, 3)?;
-    refused(b"loop nop\nnop", 24, 1)?;
-    refused(b"loop x;x:\nxx:\nx_:", 24, 1)?;
-    refused(b"loop x\nfoo", 21, 2)?;
-    refused(b"loop x\ny:\ny:", 22, 3)
+    refused(b"loop x", at_line(24, 1))?;
+    refused(b"nop\nbltz $0,b\nloop a", at_line(24, 2))?;
+    refused(b"x:loop x\n\nbltz $1,X\nloop y", at_line(24, 3))?;
+    refused(b"loop nop\nnop", at_line(24, 1))?;
+    refused(b"loop x;x:\nxx:\nx_:", at_line(24, 1))?;
+    refused(b"loop x\nfoo", at_line(21, 2))?;
+    refused(b"loop x\ny:\ny:", at_line(22, 3))
 }
 
 #[test]

@@ -1,12 +1,9 @@
-use Rattle.std.proofs.Common.{ap, ◌∙◌, refl, subst, arith}
+use Rattle.std.proofs.Common.{ap, ◌∙◌, subst, arith}
 use Rattle.grammar.specs.Forms.{ins}
 use Rattle.text.specs.Table.{WordFor}
 use Rattle.text.proofs.Cuts.{took, past}
 use Rattle.text.proofs.SecondPass.{skips_more, none_left, next_left}
 use Rattle.text.proofs.words.WordsIterator.next.Goals as goal
-
-pub loop-line-init : goal.loop-line-init
-loop-line-init c = record { table = refl; on = omega arith; skips = λ s W L code w b. b }
 
 pub returns-in-Some-code_of-clause-steps : goal.returns-in-Some-code_of-clause-steps
 returns-in-Some-code_of-clause-steps c =
