@@ -3,7 +3,7 @@
 
 mod report;
 
-use report::{Report, report_on};
+use report::{Failure, report_on};
 use std::io::{Read, Write};
 use std::process::ExitCode;
 
@@ -11,14 +11,15 @@ fn main(rt: HostRuntime) -> anyhow::Result<ExitCode> {
     let heap = rt.alloc();
     let mut text = Vec::new(heap);
     rt.stdin().read_to_end(&mut text)?;
-    match report_on(heap, text.as_slice())? {
-        Report::Words(lines) => {
+    match report_on(heap, text.as_slice()) {
+        Ok(lines) => {
             rt.stdout().write_all(lines.as_slice())?;
             Ok(ExitCode::SUCCESS)
         }
-        Report::Refused(line) => {
+        Err(Failure::Refused(line)) => {
             rt.stdout().write_all(line.as_bytes())?;
             Ok(ExitCode::FAILURE)
         }
+        Err(Failure::Memory(error)) => Err(error.into()),
     }
 }

@@ -1,11 +1,11 @@
 -- The first reading: the lines so far are good, and their labels are entered.
-use Rattle.std.proofs.Common.{◌≡◌, ℕ, suc, ◌+◌, ◌<◌, ◌≤◌, List, [], ◌∷◌, ◌++◌, length, take, drop, Some, None, Ok, Err, Option, sym, refl, ap, ◌∙◌, subst, ap₂, append_assoc, arith, length-append, length-drop}
+use Rattle.std.proofs.Common.{◌≡◌, ℕ, suc, ◌+◌, ◌≤◌, List, [], ◌∷◌, ◌++◌, length, take, drop, Some, None, Ok, Option, sym, refl, ap, ◌∙◌, subst, ap₂, append_assoc, arith, length-append}
 use Rattle.std.proofs.lemmas.List.{take_at, drop_at, drop-drop}
 use Rattle.std.proofs.ByRecursion.{All-append}
-use Rattle.std.specs.List.{prefix_len, AllByRecursion}
-use Rattle.text.specs.declared.fault.Fault.{Fault}
-use Rattle.text.specs.declared.fault.Fault.TheVariants.{TooLong, Grammar, Twice, NoRoom, Unknown}
+use Rattle.std.proofs.lemmas.List.Elements.{All-from_recursion}
+use Rattle.std.specs.List.{prefix_len, All, AllByRecursion}
 use Rattle.grammar.specs.declared.line.Line.{Line}
+use Rattle.text.specs.declared.lines.TextLine.{TextLine}
 use Rattle.text.specs.declared.table.Counts.{Counts}
 use Rattle.text.specs.declared.table.Label.{Label}
 use Rattle.grammar.specs.declared.token.Run.TheVariants as run
@@ -13,9 +13,10 @@ use Rattle.grammar.specs.Bytes.{goes_on}
 use Rattle.grammar.specs.Forms.{Ins}
 use Rattle.grammar.specs.Lines.{Says, label_in, code_in}
 use Rattle.text.specs.Table.{Within}
-use Rattle.text.specs.Outcome.{LineAt, State, start, size, labelled, defined, coded, Fresh, Places, Room, after, Lines, none, then, entered, Stopped}
+use Rattle.text.specs.Outcome.{LineAt, State, start, size, labelled, defined, coded, Fresh, Places, Room, after, Lines, none, then, entered}
 use Rattle.grammar.proofs.Fronts.{label_place}
-use Rattle.text.specs.Passes.{Filled, Checked, counted, FirstRead}
+use Rattle.text.specs.Lines.{IsLine}
+use Rattle.text.specs.Passes.{Checked, counted}
 
 -- the lines before place `at` are good, and counts and table stand for what they left
 pub record Sofar (text : List ℕ) (W : ℕ) (old : List Label) (at line : ℕ) (c : Counts) (labels : List Label) : Type 0 where
@@ -26,7 +27,7 @@ pub record Sofar (text : List ℕ) (W : ℕ) (old : List Label) (at line : ℕ) 
   pub labels_are : c.labels ≡ length state.defs
   pub table : labels ≡ entered state old
   pub room : (length state.code ≤ W) × (length state.defs ≤ length old)
-  pub few : (length state.code ≤ line) × (length state.defs ≤ line) × (line ≤ at) × (at ≤ suc (length text))
+  pub few : (length state.code ≤ line) × (length state.defs ≤ line)
 
 pub begins : (text : List ℕ) (W : ℕ) (old : List Label) → Sofar text W old 0 0 (record { words = 0; labels = 0 }) old
 begins text W old = record {
@@ -37,7 +38,7 @@ begins text W old = record {
   labels_are = refl;
   table = refl;
   room = (omega arith, omega arith);
-  few = (omega arith, omega arith, omega arith, omega arith);
+  few = (omega arith, omega arith);
 }
 
 size_defined : (at : ℕ) (bytes : List ℕ) (address : ℕ) (label : Option (List ℕ)) → length (defined at bytes address label) ≡ size label
@@ -60,11 +61,14 @@ label_within text at bytes address (Some n) code t s =
     (omega (arith, (label_place bytes n _ s.spelled.1).1), tt)
 
 -- so do the labels of all good lines
-pub lines_names : (text : List ℕ) (W L n : ℕ) (s : State) → Lines text W L n s → AllByRecursion (Within text) s.defs
+lines_names : (text : List ℕ) (W L n : ℕ) (s : State) → Lines text W L n s → AllByRecursion (Within text) s.defs
 lines_names text W L n s none = tt
 lines_names text W L n s (then {s = p} q a) =
     subst (λ x. AllByRecursion (Within text) x.defs) (sym a.is)
     (All-append (Within text) p.defs _ (lines_names text W L _ p q) (label_within text p.at a.bytes (length p.code) a.label a.code a.there a.says))
+
+pub lines_within : (text : List ℕ) (W L n : ℕ) (s : State) → Lines text W L n s → All (Within text) s.defs
+lines_within text W L n s q = All-from_recursion (Within text) s.defs (lines_names text W L n s q)
 
 same_entry : (place at : ℕ) (bytes : List ℕ) (a b : ℕ) (label : Option (List ℕ)) → place ≡ at + prefix_len (goes_on run.Spaces) bytes → a ≡ b → labelled place a label ≡ defined at bytes b label
 same_entry place at bytes a b None e f = refl
@@ -74,92 +78,46 @@ module _ {text : List ℕ} {W : ℕ} {old : List Label} {at line : ℕ} {c : Cou
   front_is : take c.labels labels ≡ h.state.defs
   front_is = ap (take c.labels) h.table ∙ take_at h.state.defs _ c.labels (sym h.labels_are)
 
-  long_is : length labels ≡ length old
-  long_is =
-      let r = h.room.1 in
-      ap length h.table ∙ simp (length-append, length-drop) (omega arith)
-
   -- what is behind the labels stays
   behind : (k : ℕ) → drop (c.labels + k) labels ≡ drop (length h.state.defs + k) old
   behind k =
       let front = h.state.defs in
       sym (drop-drop k c.labels labels) ∙ ap (drop k) (ap (drop c.labels) h.table ∙ drop_at front _ c.labels (sym h.labels_are)) ∙ drop-drop k (length front) old
 
-  pub filled : Filled text c labels × (c.words ≤ W)
-  filled =
-      let r = h.room in
-      (record { inside = omega (arith, long_is, h.labels_are); names = subst (AllByRecursion (Within text)) (sym front_is) (lines_names text W (length old) line h.state h.lines) }, omega (arith, h.words_are))
+  -- the labels that are entered have their names in the text
+  pub within : All (Within text) (take c.labels labels)
+  within = rw front_is (lines_within text W (length old) line h.state h.lines)
 
   -- the facts of the code, at the state
   fresh_there : (label : Option (List ℕ)) → Fresh text (take c.labels labels) label → Fresh text h.state.defs label
   fresh_there label f = subst (λ l. Fresh text l label) front_is f
 
-  fresh_back : (label : Option (List ℕ)) → Fresh text h.state.defs label → Fresh text (take c.labels labels) label
-  fresh_back label f = subst (λ l. Fresh text l label) (sym front_is) f
-
-  room_back : (label : Option (List ℕ)) (code : Option Ins) → Room W (length old) h.state label code → Places W (length labels) c.words c.labels label code
-  room_back label code r = (omega (arith, h.words_are, r.0), omega (arith, h.labels_are, long_is, r.1))
-
-  room_there : (label : Option (List ℕ)) (code : Option Ins) → Places W (length labels) c.words c.labels label code → Room W (length old) h.state label code
-  room_there label code r = (omega (arith, h.words_are, r.0), omega (arith, h.labels_are, long_is, r.1))
-
-  -- the first reading ends at a line that is not good
-  stopped : (Why : State → List ℕ → Type 0) (bytes words : List ℕ) (n m : ℕ) → length text ≤ 65535 → LineAt text at bytes → length words ≡ W → n ≡ suc line → m ≡ n → Why h.state bytes → Stopped text words old m words labels Why
-  stopped Why bytes words n m short t w e f why = record {
-    short = short;
-    before = line;
-    state = h.state;
-    bytes = bytes;
-    number = f ∙ e;
-    lines = subst (λ k. Lines text k (length old) line h.state) (sym w) h.lines;
-    there = subst (λ k. LineAt text k bytes) h.at_is t;
-    why = why;
-    words_stay = refl;
-    labels_are = h.table;
-  }
-
-  pub stops : (bytes : List ℕ) (n : ℕ) (f : Fault) → length text ≤ 65535 → LineAt text at bytes → n ≡ suc line → Checked text W (length labels) (take c.labels labels) c bytes n (Err f) → FirstRead text W old (Err f) labels
-  stops bytes n TooLong short t e k words w = absurd k
-  stops bytes n (Grammar m) short t e k words w = stopped _ bytes words n m short t w e k.0 k.1
-  stops bytes n (Twice m) short t e k words w =
-      let (label, more) = k.1 in
-      stopped _ bytes words n m short t w e k.0 (label, (more.0, more.1, λ f. more.2 (fresh_back label f)))
-  stops bytes n (NoRoom m) short t e k words w =
-      let (label, more) = k.1 in
-      stopped _ bytes words n m short t w e k.0 (label, (more.0, more.1, fresh_there label more.2, λ r. more.3 (room_back label more.0 (subst (λ v. Room v (length old) h.state label more.0) w r))))
-  stops bytes n (Unknown m) short t e k words w = absurd k
+  room_there : (label : Option (List ℕ)) (code : Option Ins) → Places W (length old) c.words c.labels label code → Room W (length old) h.state label code
+  room_there label code r = (omega (arith, h.words_are, r.0), omega (arith, h.labels_are, r.1))
 
   -- one more good line
-  pub goes_on_lem : (bytes : List ℕ) (n to place : ℕ) (x : Line) (labels' : List Label) → LineAt text at bytes → n ≡ suc line → to ≡ at + length bytes + 1 → place ≡ at + prefix_len (goes_on run.Spaces) bytes → Checked text W (length labels) (take c.labels labels) c bytes n (Ok x) → labels' ≡ take c.labels labels ++ (labelled place c.words (label_in x) ++ drop (c.labels + size (label_in x)) labels) → Sofar text W old to n (counted c x) labels'
-  goes_on_lem bytes n to place x labels' t e f p k write =
-      let label = label_in x in
-      let code = code_in x in
+  pub goes_on_lem : (x : TextLine) (said : Line) (place : ℕ) (labels' : List Label) → IsLine text at (line + 1) x → Checked text W (length old) (take c.labels labels) c x.bytes.now x.number (Ok said) → place ≡ x.place + prefix_len (goes_on run.Spaces) x.bytes.now → labels' ≡ take c.labels labels ++ (labelled place c.words (label_in said) ++ drop (c.labels + size (label_in said)) labels) → (to n : ℕ) → to ≡ at + length x.bytes.now + 1 → n ≡ line + 1 → Sofar text W old to n (counted c said) labels'
+  goes_on_lem x said place labels' t k p write to n e f =
+      let bytes = x.bytes.now in
+      let label = label_in said in
+      let code = code_in said in
       let new = defined h.state.at bytes (length h.state.code) label in
-      let place_is : place ≡ h.state.at + prefix_len (goes_on run.Spaces) bytes = p ∙ ap (λ m. m + prefix_len (goes_on run.Spaces) bytes) h.at_is in
+      let place_is : place ≡ h.state.at + prefix_len (goes_on run.Spaces) bytes = p ∙ ap (λ m. m + prefix_len (goes_on run.Spaces) bytes) (t.place_is ∙ h.at_is) in
       let entry = same_entry place h.state.at bytes c.words (length h.state.code) label place_is h.words_are in
-      let there = subst (λ m. LineAt text m bytes) h.at_is t in
+      let there = subst (λ m. LineAt text m bytes) h.at_is t.there in
       let short = size_defined h.state.at bytes (length h.state.code) label in
       let long = length-append h.state.defs new in
       let more = length-append h.state.code (coded (suc line) code) in
       let fit = room_there label code k.2 in
       let total : length h.state.defs + size label ≡ length (h.state.defs ++ new) = omega (arith, long, short) in
+      let next : suc line ≡ n = omega arith in
       record {
         state = after (suc line) h.state bytes label code;
-        lines = subst (λ m. Lines text W (length old) m (after (suc line) h.state bytes label code)) (sym e) (then h.lines (record { bytes = bytes; label = label; code = code; there = there; says = k.0; fresh = fresh_there label k.1; room = fit; is = refl }));
+        lines = subst (λ m. Lines text W (length old) m (after (suc line) h.state bytes label code)) next (then h.lines (record { bytes = bytes; label = label; code = code; there = there; says = k.0; fresh = fresh_there label k.1; room = fit; is = refl }));
         at_is = omega (arith, h.at_is);
         words_are = omega (arith, h.words_are, more, size_coded (suc line) code);
         labels_are = omega (arith, h.labels_are, long, short);
         table = write ∙ ap₂ (λ a b. a ++ b) front_is (ap₂ (λ a b. a ++ b) entry (behind (size label) ∙ ap (λ m. drop m old) total)) ∙ sym (append_assoc h.state.defs new _);
         room = (omega (arith, fit.0, more, size_coded (suc line) code), omega (arith, fit.1, long, short));
-        few = (omega (arith, h.few.0, more, size_coded (suc line) code, size_most code), omega (arith, h.few.1, long, short, size_most label), omega (arith, h.few.2), omega (arith, t.within));
+        few = (omega (arith, h.few.0, more, size_coded (suc line) code, size_most code), omega (arith, h.few.1, long, short, size_most label));
       }
-
-  -- all lines are good
-  pub ends : length text ≤ 65535 → length text < at → FirstRead text W old (Ok c) labels
-  ends short past = (
-    h.state,
-    record { short = short; count = line; lines = h.lines; ended = omega (arith, h.at_is, h.few.3) },
-    h.words_are,
-    h.labels_are,
-    h.table,
-  )

@@ -1,4 +1,5 @@
 pub mod Faults
+pub mod Lines
 pub mod Outcome
 pub mod Passes
 pub mod Plain

@@ -1,211 +1,106 @@
 // A text to words and labels: one reading fills the label table, a second looks the labels up.
-ghost use Rattle.std.specs.Prelude.{◌≡◌, ℕ, ◌+◌, ◌^◌, ◌<◌, ◌≤◌, ◌++◌, length, take, drop, Decides, nat_lt, slice_set};
+ghost use Rattle.std.specs.Prelude.{◌≡◌, ℕ, ◌+◌, ◌^◌, ◌<◌, ◌≤◌, ◌++◌, length, take, drop, nat_lt, OnOk};
 ghost use Rattle.std.specs.Option.{option_map};
-ghost use Rattle.std.specs.List.{AllByRecursion};
-ghost use Rattle.grammar.specs.Forms.{ins, Formed};
-ghost use Rattle.grammar.specs.Lines.{label_in, code_in};
-ghost use Rattle.text.specs.Outcome.{LineAt, Outcome, OneOutcome, State, Whole, size, labelled, Fresh, Places};
-ghost use Rattle.text.specs.Passes.{Filled, Checked, counted, FirstRead, CodeIn, Leaves, Ready, SecondRead, WordsRead};
+ghost use Rattle.text.specs.Outcome.{Outcome, OneOutcome, State, Whole, size, labelled};
+ghost use Rattle.text.specs.Passes.{Checked, FirstRead, Ready, LabelsRead, WordsRead, words_of};
 ghost use Rattle.text.specs.Plain.{GivesBack};
-ghost use Rattle.text.specs.Table.{Within, WordFor, label_used};
 ghost use Rattle.text.specs.Words.{WordFields};
 
 use crate::fault::Fault;
-use crate::table::{Counts, Label, address_of};
-use crate::word::word_of;
-use grammar::{Instruction, Line, Operand, Run, read_line, run_len};
-
-// Whether a second reading only checks the labels or also writes the words.
-#[derive(Clone, Copy)]
-enum Pass {
-    Check,
-    Write,
-}
-
-// The line that begins at a place of the text.
-fn line_at<'a>(text: &'a [u8], at: usize) -> &'a [u8]
-    requires { at ≤ length text.now }
-    ensures { LineAt text.now at result.now }
-{
-    let rest = &text[at..];
-    let n = run_len(rest, Run::Line);
-    &rest[0..n]
-}
-
-// The label that an instruction uses.
-fn label_used<'a>(code: Instruction<'a>) -> Option<&'a [u8]>
-    requires { Formed (ins code) }
-    ensures { option_map (λ x. x.now) result ≡ label_used (ins code.entry) }
-{
-    match code {
-        Instruction::Bltz(_, Operand::Label(name)) => Some(name),
-        Instruction::Loop(Operand::Label(name)) => Some(name),
-        _ => None,
-    }
-}
-
-// The word of an instruction, or none where its label is unknown or lies above 2,047.
-fn word_for(text: &[u8], labels: &[Label], code: Instruction) -> Option<u32>
-    requires { (Formed (ins code)) × (AllByRecursion (Within text.now) labels.now) }
-    ensures { WordFor text.now labels.now (ins code.entry) result }
-{
-    match label_used(code) {
-        None => Some(word_of(code, 0)),
-        Some(name) => {
-            let address = address_of(text, labels, name)?;
-            if address > 2047 {
-                return None;
-            }
-            Some(word_of(code, address as u32))
-        }
-    }
-}
-
-// Whether no earlier line has the label.
-fn is_free(text: &[u8], labels: &[Label], label: Option<&[u8]>) -> bool
-    requires { AllByRecursion (Within text.now) labels.now }
-    ensures { Decides result (Fresh text.now labels.now (option_map (λ x. x.now) label.entry)) }
-{
-    match label {
-        Some(name) => address_of(text, labels, name).is_none(),
-        None => true,
-    }
-}
-
-// Whether there is a place for the word and the label of a line.
-fn has_places(said: Line, counts: Counts, words: usize, labels: usize) -> bool
-    requires { (counts.labels ≤ labels) × (counts.words ≤ words) }
-    ensures { Decides result (Places words labels counts.words counts.labels (label_in said.entry) (code_in said.entry)) }
-{
-    (said.code.is_none() || counts.words < words)
-        && (said.label.is_none() || counts.labels < labels)
-}
+use crate::lines::{Lines, TextLine};
+use crate::table::{Counts, Label, Table};
+use crate::words::Words;
+use grammar::{Line, Run, read_line, run_len};
 
 // What a line says where it is good, or why it is not.
 fn check_line<'a>(
-    text: &[u8],
-    bytes: &'a [u8],
-    line: u32,
-    room: usize,
-    labels: &[Label],
+    table: Table,
+    line: TextLine<'a>,
     counts: Counts,
+    room: Counts,
 ) -> Result<Line<'a>, Fault>
-    requires { (Filled text.now counts labels.now) × (counts.words ≤ room) }
-    ensures { Checked text.now room (length labels.now) (take counts.labels labels.now) counts bytes.now line result }
+    requires { (counts.words < 2 ^ 32) × (counts.labels < 2 ^ 32) }
+    ensures { Checked table.entry.text.now room.words room.labels table.entry.labels.now counts line.entry.bytes.now line.entry.number result }
 {
-    let Some(said) = read_line(bytes, line) else {
-        return Err(Fault::Grammar(line));
-    };
-    let count = counts.labels;
-    if !is_free(text, &labels[0..count], said.label) {
-        return Err(Fault::Twice(line));
+    let said = read_line(line.bytes, line.number).ok_or(Fault::Grammar(line.number))?;
+    if !table.is_free(said.label) {
+        return Err(Fault::Twice(line.number));
     }
-    if !has_places(said, counts, room, labels.len()) {
-        return Err(Fault::NoRoom(line));
+    if !counts.after(said).fit(room) {
+        return Err(Fault::NoRoom(line.number));
     }
     Ok(said)
 }
 
-// The counts behind a good line.
-fn count(counts: Counts, said: Line) -> Counts
-    requires { (counts.words < 2 ^ 32) × (counts.labels < 2 ^ 32) }
-    ensures { result ≡ counted counts said.entry }
-{
-    let words = if said.code.is_some() { 1 } else { 0 };
-    let labels = if said.label.is_some() { 1 } else { 0 };
-    Counts {
-        words: counts.words + words,
-        labels: counts.labels + labels,
-    }
-}
-
 // Enters the label of a good line, if it has one.
-fn enter(labels: &mut [Label], at: usize, label: Option<&[u8]>, place: usize, address: usize)
-    requires { at + size (option_map (λ x. x.now) label) ≤ length labels.old }
-    ensures { labels.new ≡ take at labels.old ++ (labelled place address (option_map (λ x. x.now) label.entry) ++ drop (at + size (option_map (λ x. x.now) label.entry)) labels.old) }
+fn enter(labels: &mut [Label], counts: Counts, label: Option<&[u8]>, place: usize)
+    requires { counts.labels + size (option_map (λ x. x.now) label) ≤ length labels.old }
+    ensures { labels.new ≡ take counts.labels labels.old ++ (labelled place counts.words (option_map (λ x. x.now) label.entry) ++ drop (counts.labels + size (option_map (λ x. x.now) label.entry)) labels.old) }
 {
     if let Some(name) = label {
-        labels[at] = Label {
+        labels[counts.labels] = Label {
             place,
             length: name.len(),
-            address,
+            address: counts.words,
         };
     }
 }
 
 // The first reading: tests each line in order, and enters its label once it is good.
-fn first_reading(text: &[u8], room: usize, labels: &mut [Label]) -> Result<Counts, Fault>
+fn first_reading(text: &[u8], words: usize, labels: &mut [Label]) -> Result<Counts, Fault>
     requires { length text.now ≤ 65535 }
-    ensures { FirstRead text.now room labels.old result labels.new }
+    ensures { FirstRead text.now words labels.old result labels.new }
 {
+    let room = Counts {
+        words,
+        labels: labels.len(),
+    };
     let mut counts = Counts {
         words: 0,
         labels: 0,
     };
-    let mut line: u32 = 0;
-    let mut at = 0;
-    while at <= text.len() {
-        line += 1;
-        let bytes = line_at(text, at);
-        let said = check_line(text, bytes, line, room, labels, counts)?;
-        let place = at + run_len(bytes, Run::Spaces);
-        enter(labels, counts.labels, said.label, place, counts.words);
-        counts = count(counts, said);
-        at += bytes.len() + 1;
+    for line in Lines::of(text) {
+        let table = Table {
+            text,
+            labels: &labels[..counts.labels],
+        };
+        let said = check_line(table, line, counts, room)?;
+        let place = line.place + run_len(line.bytes, Run::Spaces);
+        enter(labels, counts, said.label, place);
+        counts = counts.after(said);
     }
     Ok(counts)
 }
 
-// The instruction of a line that is known to be good.
-fn code_of<'a>(bytes: &'a [u8], line: u32) -> Option<Instruction<'a>>
-    ensures { CodeIn bytes.now result }
+// Whether each label that a good text uses is known, or the first line where one is not.
+fn check_words(table: Table) -> Result<(), Fault>
+    requires { (W : ℕ) × Ready table.text.now W table.labels.now }
+    ensures { (s : State) (W L : ℕ) → Whole table.entry.text.now W L s → table.entry.labels.now ≡ s.defs → LabelsRead table.entry.text.now s result }
 {
-    match read_line(bytes, line) {
-        Some(said) => said.code,
-        None => None,
+    for word in Words::of(table) {
+        word?;
     }
+    Ok(())
 }
 
-// Writes a word, if the reading is one that writes.
-fn put(words: &mut [u32], at: usize, word: u32, pass: Pass)
-    requires { at < length words.old }
-    ensures { Leaves pass (slice_set words.old at word) words.old words.new }
+// Writes the words of a good text, up to the first line that uses a label in vain.
+fn put_words(table: Table, words: &mut [u32]) -> Result<(), Fault>
+    requires { Ready table.text.now (length words.old) table.labels.now }
+    ensures { (s : State) (L : ℕ) → Whole table.entry.text.now (length words.old) L s → table.entry.labels.now ≡ s.defs → LabelsRead table.entry.text.now s result × OnOk result (words.new ≡ words_of table.entry.text.now s s.code ++ drop (length s.code) words.old) }
 {
-    if let Pass::Write = pass {
-        words[at] = word;
-    }
-}
-
-// The second reading of a good text: looks the labels up, and writes the words if it is to.
-fn second_reading(text: &[u8], table: &[Label], words: &mut [u32], pass: Pass) -> Result<(), Fault>
-    requires { Ready text.now (length words.old) table.now }
-    ensures { (s : State) (L : ℕ) → Whole text.now (length words.old) L s → table.now ≡ s.defs → SecondRead text.now s pass result words.old words.new }
-{
-    let mut line: u32 = 0;
-    let mut at = 0;
-    let mut written = 0;
-    while at <= text.len() {
-        line += 1;
-        let bytes = line_at(text, at);
-        if let Some(code) = code_of(bytes, line) {
-            let Some(word) = word_for(text, table, code) else {
-                return Err(Fault::Unknown(line));
-            };
-            put(words, written, word, pass);
-            written += 1;
-        }
-        at += bytes.len() + 1;
+    for (at, word) in Words::of(table).enumerate() {
+        words[at] = word?;
     }
     Ok(())
 }
 
 // Writes the words of a good text if all its labels are known, and else nothing.
-fn write_words(text: &[u8], table: &[Label], words: &mut [u32]) -> Result<(), Fault>
-    requires { Ready text.now (length words.old) table.now }
-    ensures { (s : State) (L : ℕ) → Whole text.now (length words.old) L s → table.now ≡ s.defs → WordsRead text.now s result words.old words.new }
+fn write_words(table: Table, words: &mut [u32]) -> Result<(), Fault>
+    requires { Ready table.text.now (length words.old) table.labels.now }
+    ensures { (s : State) (L : ℕ) → Whole table.entry.text.now (length words.old) L s → table.entry.labels.now ≡ s.defs → WordsRead table.entry.text.now s result words.old words.new }
 {
-    second_reading(text, table, words, Pass::Check)?;
-    second_reading(text, table, words, Pass::Write)
+    check_words(table)?;
+    put_words(table, words)
 }
 
 // Whether a text has more bytes than it may have.
@@ -226,8 +121,10 @@ pub fn assemble(text: &[u8], words: &mut [u32], labels: &mut [Label]) -> Result<
         return Err(Fault::TooLong);
     }
     let counts = first_reading(text, words.len(), labels)?;
-    let used = counts.labels;
-    let table = &labels[0..used];
-    write_words(text, table, words)?;
+    let table = Table {
+        text,
+        labels: &labels[..counts.labels],
+    };
+    write_words(table, words)?;
     Ok(counts)
 }

@@ -5,7 +5,7 @@ ghost use Rattle.text.specs.Faults.{refusal_of};
 use listing::{Layer, Refusal};
 
 // A refusal of a text; the lines are counted from 1.
-#[derive(Clone, Copy, PartialEq, Debug)]
+#[derive(Clone, Copy, PartialEq, Eq, Debug)]
 pub enum Fault {
     // more than 65,535 bytes
     TooLong,
@@ -19,12 +19,12 @@ pub enum Fault {
     Unknown(u32),
 }
 
-impl Fault {
-    // The fault as its number, its layer and its place.
-    pub fn refusal(&self) -> Refusal
-        ensures { result ≡ refusal_of self.now }
-    {
-        let (number, place) = match *self {
+// The fault as its number, its layer and its place.
+impl From<Fault> for Refusal {
+    ghost from_gives = { λ fault refusal. refusal ≡ refusal_of fault };
+
+    fn from(fault: Fault) -> Refusal {
+        let (number, place) = match fault {
             Fault::TooLong => (20, 0),
             Fault::Grammar(line) => (21, line),
             Fault::Twice(line) => (22, line),

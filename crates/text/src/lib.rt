@@ -3,8 +3,10 @@
 
 mod assembly;
 mod fault;
+mod lines;
 mod table;
 mod word;
+mod words;
 
 pub use assembly::assemble;
 pub use fault::Fault;

@@ -1,7 +1,9 @@
 // The words of instructions: 20 bits, unused ones 0.
-ghost use Rattle.std.specs.Prelude.{◌≡◌, ◌^◌, ◌<◌, ◌≤◌};
+ghost use Rattle.std.specs.Prelude.{◌≡◌, ◌≤◌};
+ghost use Rattle.std.specs.Option.{option_map};
 ghost use Rattle.grammar.specs.Forms.{ins, Formed};
 ghost use Rattle.grammar.specs.Grammar.{opd};
+ghost use Rattle.text.specs.Table.{label_used};
 ghost use Rattle.text.specs.Words.{binary_code, unary_code, value, packed, word_of};
 
 use grammar::{Binary, Instruction, Operand, Unary};
@@ -24,6 +26,18 @@ fn unary_code(op: Unary) -> u32
         Unary::Floor => 4,
         Unary::Abs => 5,
         Unary::Sqrt => 6,
+    }
+}
+
+// The label that an instruction uses.
+pub(crate) fn label_used<'a>(code: Instruction<'a>) -> Option<&'a [u8]>
+    requires { Formed (ins code) }
+    ensures { option_map (λ x. x.now) result ≡ label_used (ins code.entry) }
+{
+    match code {
+        Instruction::Bltz(_, Operand::Label(name)) | Instruction::Loop(Operand::Label(name)) =>
+            Some(name),
+        _ => None,
     }
 }
 

@@ -3,12 +3,11 @@
 
 ghost use Rattle.std.specs.Prelude.{◌≡◌, IfOk, string_bytes};
 ghost use Rattle.text_cases.specs.Answers.{Answered};
-ghost use Rattle.text_cases.specs.Places.{parts_of};
 ghost use Rattle.text_cases.specs.Lines.{label_line, label_lines};
 
 use listing::Refusal;
 use std::alloc::{AllocError, Global};
-use text::{Label, assemble};
+use text::{Counts, Label, assemble};
 
 #[cfg(test)]
 mod expect;
@@ -26,20 +25,10 @@ pub(crate) fn answer(
     text: &[u8],
     words: &mut [u32],
     labels: &mut [Label],
-) -> Result<(usize, usize), Refusal>
+) -> Result<Counts, Refusal>
     ensures { Answered text.now words.old labels.old result words.new labels.new }
 {
-    match assemble(text, words, labels) {
-        Ok(counts) => Ok((counts.words, counts.labels)),
-        Err(fault) => Err(fault.refusal()),
-    }
-}
-
-// The place, the length and the address of a label.
-pub(crate) fn parts(label: &Label) -> (usize, usize, usize)
-    ensures { result ≡ parts_of label.now }
-{
-    (label.place, label.length, label.address)
+    Ok(assemble(text, words, labels)?)
 }
 
 // The line of a label: the letter l, a number and a colon.

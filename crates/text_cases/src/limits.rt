@@ -1,7 +1,7 @@
 // Texts at the end of the places, of the addresses and of the greatest length.
-use crate::expect::{BLANK, OLD, Stop, at_line, fits, hold, hold_labels, stops};
+use crate::expect::{BLANK, OLD, Stop, at_line, counts, fits, hold, hold_labels, label, stops};
 use crate::wrong::{Wrong, check, noted};
-use crate::{answer, numbered, parts};
+use crate::{answer, numbered};
 use std::alloc::Global;
 use std::test::Fail;
 
@@ -189,10 +189,10 @@ fn few_places() -> Result<(), Fail> {
     for (i, case) in STOPS.iter().enumerate() {
         noted(stops(*case), "stop", i)?;
     }
-    fits(b";c\n", (0, 0))?;
-    fits(b"x:", (0, 1))?;
-    fits(b"nop", (1, 0))?;
-    Ok(fits(b"x:nop\ny:\nloop y", (2, 2))?)
+    fits(b";c\n", counts(0, 0))?;
+    fits(b"x:", counts(0, 1))?;
+    fits(b"nop", counts(1, 0))?;
+    Ok(fits(b"x:nop\ny:\nloop y", counts(2, 2))?)
 }
 
 // Passes where a label behind two uses and so many words is found at its address, 2 more.
@@ -202,7 +202,7 @@ fn reaches(heap: Global, nops: usize, first: u32, second: u32) -> Result<(), Wro
     text.push_str("t:")?;
     let mut words = [OLD; 2100];
     let mut labels = [BLANK; 2];
-    let (count, _) = answer(text.as_bytes(), &mut words, &mut labels)?;
+    let count = answer(text.as_bytes(), &mut words, &mut labels)?.words;
     check(count >= 2 && count <= 2100, "room for the words")?;
     check(count - 2 == nops, "as many words")?;
     hold(&words[0..2], &[first, second])
@@ -227,7 +227,7 @@ fn far_labels(rt: HostRuntime) -> Result<(), Wrong> {
     text.push_str("far:")?;
     assert_eq!(rt;
         answer(text.as_bytes(), &mut words, &mut labels),
-        Ok((2048, 1))
+        Ok(counts(2048, 1))
     );
     hold(&words, [0; 2048].as_slice())?;
     hold_labels(&labels, &[(8192, 3, 2048)])?;
@@ -249,7 +249,7 @@ fn last_word(rt: HostRuntime) -> Result<(), Wrong> {
     hold(&words, &[])?;
     let full = "nop\n".repeat(heap, 2048)?;
     let got = answer(full.as_bytes(), &mut words, &mut labels);
-    assert_eq!(rt; got, Ok((2048, 0)));
+    assert_eq!(rt; got, Ok(counts(2048, 0)));
     hold(&words, &[0; 2048])?;
     hold_labels(&labels, &[])
 }
@@ -262,13 +262,13 @@ fn last_label(rt: HostRuntime) -> Result<(), Wrong> {
     let more = numbered(heap, 2049)?;
     let got = answer(more.as_bytes(), &mut words, &mut labels);
     assert_eq!(rt; got, Err(at_line(23, 2049)));
-    assert_eq!(rt; parts(&labels[2047]), (13219, 5, 0));
+    assert_eq!(rt; labels[2047], label((13219, 5, 0)));
     let full = numbered(heap, 2048)?;
     let mut fresh = [BLANK; 2048];
     let got = answer(full.as_bytes(), &mut words, &mut fresh);
-    assert_eq!(rt; got, Ok((0, 2048)));
-    assert_eq!(rt; parts(&fresh[0]), (0, 2, 0));
-    assert_eq!(rt; parts(&fresh[2047]), (13219, 5, 0));
+    assert_eq!(rt; got, Ok(counts(0, 2048)));
+    assert_eq!(rt; fresh[0], label((0, 2, 0)));
+    assert_eq!(rt; fresh[2047], label((13219, 5, 0)));
     hold(&words, &[])
 }
 
@@ -287,7 +287,7 @@ fn longest_text(rt: HostRuntime) -> Result<(), Wrong> {
     hold(&words, &[])?;
     hold_labels(&labels, &[])?;
     let got = answer(text.as_bytes(), &mut words, &mut labels);
-    assert_eq!(rt; got, Ok((1, 1)));
+    assert_eq!(rt; got, Ok(counts(1, 1)));
     hold(&words, &[0])?;
     hold_labels(&labels, &[(0, 1, 0)])
 }
@@ -300,7 +300,7 @@ fn many_lines(rt: HostRuntime) -> Result<(), Wrong> {
     let mut labels = [BLANK; 2];
     assert_eq!(rt;
         answer(text.as_bytes(), &mut words, &mut labels),
-        Ok((0, 0))
+        Ok(counts(0, 0))
     );
     text.push_str("?")?;
     let got = answer(text.as_bytes(), &mut words, &mut labels);

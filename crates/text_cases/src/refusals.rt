@@ -1,6 +1,7 @@
 // Texts that are refused, with the number and the line.
 use crate::expect::{at_line, is_foreign, refused};
 use crate::wrong::{Wrong, noted};
+use listing::Refusal;
 use std::alloc::Global;
 use std::test::Fail;
 use text::Fault;
@@ -184,30 +185,33 @@ fn lines_outside_the_grammar(rt: HostRuntime) -> Result<(), Fail> {
 
 #[test]
 fn labels_twice() -> Result<(), Wrong> {
-    refused(b"x:\nx:", 22, 2)?;
-    refused(b"x:nop\n\n;c\n x : done", 22, 4)?;
-    refused(b"a:\nb:\nb:\na:", 22, 3)?;
-    refused(b"x:\nX:\nx:", 22, 3)?;
-    refused(b"abcdefghijklmnop:\nabcdefghijklmnop:", 22, 2)?;
-    refused(b"nop:nop\nnop:nop\nfoo", 22, 2)
+    refused(b"x:\nx:", at_line(22, 2))?;
+    refused(b"x:nop\n\n;c\n x : done", at_line(22, 4))?;
+    refused(b"a:\nb:\nb:\na:", at_line(22, 3))?;
+    refused(b"x:\nX:\nx:", at_line(22, 3))?;
+    refused(b"abcdefghijklmnop:\nabcdefghijklmnop:", at_line(22, 2))?;
+    refused(b"nop:nop\nnop:nop\nfoo", at_line(22, 2))
 }
 
 #[test]
 fn unknown_labels() -> Result<(), Wrong> {
-    refused(b"loop x", 24, 1)?;
-    refused(b"nop\nbltz $0,b\nloop a", 24, 2)?;
-    refused(b"x:loop x\n\nbltz $1,X\nloop y", 24, 3)?;
-    refused(b"loop nop\nnop", 24, 1)?;
-    refused(b"loop x;x:\nxx:\nx_:", 24, 1)?;
-    refused(b"loop x\nfoo", 21, 2)?;
-    refused(b"loop x\ny:\ny:", 22, 3)
+    refused(b"loop x", at_line(24, 1))?;
+    refused(b"nop\nbltz $0,b\nloop a", at_line(24, 2))?;
+    refused(b"x:loop x\n\nbltz $1,X\nloop y", at_line(24, 3))?;
+    refused(b"loop nop\nnop", at_line(24, 1))?;
+    refused(b"loop x;x:\nxx:\nx_:", at_line(24, 1))?;
+    refused(b"loop x\nfoo", at_line(21, 2))?;
+    refused(b"loop x\ny:\ny:", at_line(22, 3))
 }
 
 #[test]
 fn numbers_of_the_faults(rt: HostRuntime) {
-    assert_eq!(rt; Fault::TooLong.refusal(), at_line(20, 0));
-    assert_eq!(rt; Fault::Grammar(1).refusal(), at_line(21, 1));
-    assert_eq!(rt; Fault::Twice(2).refusal(), at_line(22, 2));
-    assert_eq!(rt; Fault::NoRoom(65536).refusal(), at_line(23, 65536));
-    assert_eq!(rt; Fault::Unknown(u32::MAX).refusal(), at_line(24, u32::MAX));
+    assert_eq!(rt; Refusal::from(Fault::TooLong), at_line(20, 0));
+    assert_eq!(rt; Refusal::from(Fault::Grammar(1)), at_line(21, 1));
+    assert_eq!(rt; Refusal::from(Fault::Twice(2)), at_line(22, 2));
+    assert_eq!(rt; Refusal::from(Fault::NoRoom(65536)), at_line(23, 65536));
+    assert_eq!(rt;
+        Refusal::from(Fault::Unknown(u32::MAX)),
+        at_line(24, u32::MAX)
+    );
 }

@@ -5,6 +5,7 @@ use listing::Refusal;
 use std::alloc::AllocError;
 use std::fmt::Display;
 use std::test::Fail;
+use text::Label;
 
 #[derive(Debug, Drop)]
 pub(crate) enum Wrong {
@@ -15,8 +16,8 @@ pub(crate) enum Wrong {
         expected: u32,
     },
     Label {
-        is: (usize, usize, usize),
-        expected: (usize, usize, usize),
+        is: Label,
+        expected: Label,
     },
     Refused(Refusal),
     Memory(AllocError),

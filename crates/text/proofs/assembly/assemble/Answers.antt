@@ -1,7 +1,7 @@
-use Rattle.std.proofs.Common.{sym, refl, ◌∙◌, rules}
+use Rattle.std.proofs.Common.{sym, refl, ◌∙◌}
 use Rattle.std.proofs.lemmas.Result.{err_from_is_err_and}
 use Rattle.std.proofs.lemmas.Bool.{ltb-true}
-use Rattle.text.proofs.Endings.{inside, ready, lost, done, settled}
+use Rattle.text.proofs.Endings.{within, lost, done, settled}
 use Rattle.text.proofs.assembly.assemble.Goals as goal
 
 pub returns-then-is_too_long : goal.returns-then-is_too_long
@@ -14,14 +14,9 @@ returns-in_err-counts c =
     let p = err_from_is_err_and c.from_residual.result c.from_residual.ensures.1 in
     rw (p.1, p.2) (settled c.args.text.now c.args.words.now c.args.labels.now _ _ _ (c.in_err-counts.ensures c.args.words.now refl))
 
-pub slice_bounds-table-end : goal.slice_bounds-table-end
-slice_bounds-table-end c =
-    let fits = inside c.args.text.now c.args.words.now c.args.labels.now c.first_reading.new.labels c.in_ok-counts.counts c.in_ok-counts.ensures in
-    search rules
-
-pub write_words-requires : goal.write_words-requires
-write_words-requires c =
-    ready c.args.text.now c.args.words.now c.args.labels.now c.first_reading.new.labels c.in_ok-counts.counts c.in_ok-counts.ensures
+pub invariant_of-table : goal.invariant_of-table
+invariant_of-table c =
+    record { within = within c.args.text.now c.args.words.now c.args.labels.now c.first_reading.new.labels c.in_ok-counts.counts c.in_ok-counts.ensures }
 
 pub returns-in_err-write_words : goal.returns-in_err-write_words
 returns-in_err-write_words c =

@@ -1,25 +1,19 @@
-use Rattle.std.proofs.Common.{◌+◌, ap, arith}
-use Rattle.std.proofs.lemmas.Result.{err_from_is_err_and}
-use Rattle.text.proofs.FirstPass.{begins, filled, stops, goes_on_lem, ends}
+use Rattle.std.proofs.Common.{◌+◌, ap}
+use Rattle.text.proofs.Cuts.{took}
+use Rattle.text.proofs.FirstPass.{begins, within, goes_on_lem}
 use Rattle.text.proofs.assembly.first_reading.Goals as goal
 
-pub loop-at-init : goal.loop-at-init
-loop-at-init c = begins c.args.text.now c.args.room c.args.labels.now
+pub loop-line-init : goal.loop-line-init
+loop-line-init c =
+    let lines = c.of-line-items.ensures in
+    let same = c.into_iter-line-iterator.ensures.into_iter_gives in
+    rw same (lines.text, rw (lines.at, lines.count) (begins c.args.text.now c.args.words c.args.labels.now))
 
-pub check_line-requires : goal.check_line-requires
-check_line-requires c = filled c.loop-at.invariant
+pub invariant_of-table : goal.invariant_of-table
+invariant_of-table c = record { within = within c.loop-line.invariant.1 }
 
-pub returns-in_err-said : goal.returns-in_err-said
-returns-in_err-said c =
-    let p = err_from_is_err_and c.from_residual.result c.from_residual.ensures.1 in
-    rw (p.1, p.2) (stops c.loop-at.invariant c.line_at-bytes.result.now _ _ c.requires c.line_at-bytes.ensures (omega arith) c.in_err-said.ensures)
-
-pub loop-at-preserved : goal.loop-at-preserved
-loop-at-preserved c =
-    let bytes = c.line_at-bytes.result.now in
+pub loop-line-preserved : goal.loop-line-preserved
+loop-line-preserved c =
+    let t = took c.loop-line.invariant.0 c.in-Some.ensures.steps in
     let spaces = c.run_len.ensures.value in
-    rw c.count-counts.ensures
-    (goes_on_lem c.loop-at.invariant bytes _ _ (c.loop-at.at + c.run_len.result) c.in_ok-said.said _ c.line_at-bytes.ensures (omega arith) (omega arith) (ap (λ m. c.loop-at.at + m) spaces) c.in_ok-said.ensures c.enter.ensures)
-
-pub returns : goal.returns
-returns c = ends c.loop-at.invariant c.requires c.loop-at-test.false
+    (t.same, rw c.after-counts.ensures (goes_on_lem c.loop-line.invariant.1 c.in-Some.line c.in_ok-said.said (c.in-Some.line.place + c.run_len.result) _ t.is c.in_ok-said.ensures (ap (λ m. c.in-Some.line.place + m) spaces) c.enter.ensures _ _ t.at_is t.count_is))

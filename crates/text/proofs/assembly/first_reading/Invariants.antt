@@ -1,9 +1,8 @@
-use Rattle.std.proofs.Common.{suc, ◌-◌, length}
+use Rattle.std.proofs.Common.{◌≡◌}
 use Rattle.text.proofs.FirstPass.{Sofar}
 use Rattle.text.proofs.assembly.first_reading.Given as goal
 
-abbrev pub invariant-loop-at : goal.invariant-loop-at
-invariant-loop-at l = Sofar l.text l.room l.initial.labels l.at l.line l.counts l.labels
-
-abbrev pub decreases-loop-at : goal.decreases-loop-at
-decreases-loop-at l = suc (length l.text) - l.at
+abbrev pub invariant-loop-line : goal.invariant-loop-line
+invariant-loop-line l =
+    let left = l.line-iterator in
+    (left.text.now ≡ l.text) × Sofar l.text l.words l.initial.labels left.at left.count l.counts l.labels

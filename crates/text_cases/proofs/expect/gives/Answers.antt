@@ -5,4 +5,4 @@ use Rattle.text_cases.proofs.expect.gives.Goals as goal
 
 pub returns : goal.returns
 returns c =
-    passed (gave _ _ _ _ _ _ (eqb-true _ _ c.in_ok-check.ensures.only) c.in_ok-count.ensures) c.hold.result c.hold.ensures
+    passed (gave _ _ _ _ _ (eqb-true _ _ c.in_ok-check.ensures.only) c.in_ok-counts.ensures) c.hold.result c.hold.ensures.only

@@ -4,4 +4,4 @@ use Rattle.text_cases.proofs.expect.refused.Goals as goal
 
 pub returns : goal.returns
 returns c =
-    passed (turned _ _ _ _ _ _ c.in_ok-is_at.ensures c.in-Err.ensures) c.hold.result c.hold.ensures
+    passed (turned _ _ _ _ _ c.in_ok-is_told.ensures.only c.in-Err.ensures) c.hold.result c.hold.ensures.only
