@@ -2,7 +2,8 @@
 use Rattle.std.proofs.Common.{◌≡◌, ℕ, ◌+◌, ◌*◌, ◌/◌, ◌%◌, ◌^◌, ◌≤◌, arith}
 use Rattle.grammar.specs.Grammar.{Opd, reg, num, lab, InRange}
 use Rattle.grammar.specs.Forms.{binary, unary, cmov, bltz, setx, loop, done, nop, Destination, Source, Count, Target}
-use Rattle.text.specs.Words.{binary_code, unary_code, value, packed, Packed, Branches, Numbered, WordFields}
+use Rattle.operations.specs.Codes.{binary_code, unary_code}
+use Rattle.text.specs.Words.{value, packed, Packed, Branches, Numbered, WordFields}
 
 packed_fields : (code d a b : ℕ) → 16 ≤ d → d ≤ 31 → a ≤ 31 → b ≤ 31 → Packed code d a b (packed code d a b)
 packed_fields code d a b low high ha hb = record { code_is = omega arith; destination_is = omega arith; a_is = omega arith; b_is = omega arith; rest_is = omega arith }

@@ -1,22 +1,8 @@
 -- The words of instructions: 20 bits, the code in bits 19 to 16.
 use Rattle.std.specs.Prelude.{◌≡◌, ℕ, ◌+◌, ◌-◌, ◌*◌, ◌/◌, ◌%◌, ◌^◌, ◌≤◌}
-use Rattle.operations.specs.declared.Binary.{Binary}
-use Rattle.operations.specs.declared.Binary.TheVariants.{Add, Sub, Mul, Div}
-use Rattle.operations.specs.declared.Unary.{Unary}
-use Rattle.operations.specs.declared.Unary.TheVariants.{Floor, Abs, Sqrt}
+use Rattle.operations.specs.Codes.{binary_code, unary_code}
 use Rattle.grammar.specs.Grammar.{Opd, reg, num, lab}
 use Rattle.grammar.specs.Forms.{Ins, binary, unary, cmov, bltz, setx, loop, done, nop, Formed}
-
-abbrev pub binary_code : Binary → ℕ
-binary_code Add = 0
-binary_code Sub = 1
-binary_code Mul = 2
-binary_code Div = 3
-
-abbrev pub unary_code : Unary → ℕ
-unary_code Floor = 4
-unary_code Abs = 5
-unary_code Sqrt = 6
 
 -- the number in an operand; the target stands for a label
 abbrev pub value : ℕ → Opd → ℕ

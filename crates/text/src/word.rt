@@ -4,30 +4,9 @@ ghost use Rattle.std.specs.Option.{option_map};
 ghost use Rattle.grammar.specs.Forms.{ins, Formed};
 ghost use Rattle.grammar.specs.Grammar.{opd};
 ghost use Rattle.text.specs.Table.{label_used};
-ghost use Rattle.text.specs.Words.{binary_code, unary_code, value, packed, word_of};
+ghost use Rattle.text.specs.Words.{value, packed, word_of};
 
-use grammar::{Binary, Instruction, Operand, Unary};
-
-fn binary_code(op: Binary) -> u32
-    ensures { (result ≡ binary_code op) × (result ≤ 3) }
-{
-    match op {
-        Binary::Add => 0,
-        Binary::Sub => 1,
-        Binary::Mul => 2,
-        Binary::Div => 3,
-    }
-}
-
-fn unary_code(op: Unary) -> u32
-    ensures { (result ≡ unary_code op) × (result ≤ 6) }
-{
-    match op {
-        Unary::Floor => 4,
-        Unary::Abs => 5,
-        Unary::Sqrt => 6,
-    }
-}
+use grammar::{Instruction, Operand};
 
 // The label that an instruction uses.
 pub(crate) fn label_used<'a>(code: Instruction<'a>) -> Option<&'a [u8]>
@@ -46,8 +25,7 @@ fn value_of(o: Operand, target: u32) -> u32
     ensures { result ≡ value target (opd o.entry) }
 {
     match o {
-        Operand::Register(v) => v,
-        Operand::Number(v) => v,
+        Operand::Register(v) | Operand::Number(v) => v,
         Operand::Label(_) => target,
     }
 }
@@ -67,17 +45,15 @@ pub(crate) fn word_of(code: Instruction, target: u32) -> u32
 {
     match code {
         Instruction::Binary(op, d, a, b) => {
-            let code = binary_code(op);
             pack(
-                code,
+                op.into(),
                 value_of(d, target),
                 value_of(a, target),
                 value_of(b, target),
             )
         }
         Instruction::Unary(op, d, a) => {
-            let code = unary_code(op);
-            pack(code, value_of(d, target), value_of(a, target), 0)
+            pack(op.into(), value_of(d, target), value_of(a, target), 0)
         }
         Instruction::Cmov(d, a, b) => {
             pack(
