@@ -37,9 +37,13 @@ impl Place<'_> {
         ensures { Feeder self.entry.words.now self.entry.address result }
     {
         for address in (0..self.address).rev() {
-            match Instruction::try_from(self.words[address]) {
-                Ok(Instruction::Setx(count)) => return Some(Setx { address, count }),
-                Ok(Instruction::Loop(_)) => return None,
+            let place = Place {
+                words: self.words,
+                address,
+            };
+            match place.instruction() {
+                Some(Instruction::Setx(count)) => return Some(Setx { address, count }),
+                Some(Instruction::Loop(_)) => return None,
                 _ => {}
             }
         }
