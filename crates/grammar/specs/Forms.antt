@@ -1,5 +1,5 @@
 -- The instructions: how each is named, and what its operands are.
-use Rattle.std.specs.Prelude.{◌≡◌, ℕ, ◌≤◌, Bool, true, false, List, [], ◌∷◌, codes, Option, MatchOption, ◌≢◌, nat_le}
+use Rattle.std.specs.Prelude.{◌≡◌, ℕ, ◌≤◌, List, [], ◌∷◌, codes, Option, MatchOption, ◌≢◌}
 use Rattle.std.specs.List.{AllByRecursion}
 use Rattle.operations.specs.declared.Binary.{Binary}
 use Rattle.operations.specs.declared.Binary.TheVariants.{Add, Sub, Mul, Div}
@@ -9,8 +9,6 @@ use Rattle.grammar.specs.declared.instruction.Mnemonic.{Mnemonic}
 use Rattle.grammar.specs.declared.instruction.Mnemonic.TheVariants as mnemonic
 use Rattle.grammar.specs.declared.instruction.Instruction.{Instruction}
 use Rattle.grammar.specs.declared.instruction.Instruction.TheVariants as instruction
-use Rattle.grammar.specs.declared.operand.Operand.{Operand}
-use Rattle.grammar.specs.declared.operand.Operand.TheVariants.{Register, Number, Label}
 use Rattle.grammar.specs.Tokens.{Spelled}
 use Rattle.grammar.specs.Grammar.{Opd, reg, num, lab, opd, InRange, listed}
 
@@ -110,27 +108,6 @@ Kinds nop = Unit {0}
 pub record Formed (i : Ins) : Type 0 where
   pub kinds : Kinds i
   pub ranges : AllByRecursion InRange (operands_of i)
-
--- the tests of one operand
-abbrev pub is_destination : Operand → Bool
-is_destination (Register v) = nat_le 16 v
-is_destination (Number v) = false
-is_destination (Label n) = false
-
-abbrev pub is_register : Operand → Bool
-is_register (Register v) = true
-is_register (Number v) = false
-is_register (Label n) = false
-
-abbrev pub is_number : Operand → Bool
-is_number (Register v) = false
-is_number (Number v) = true
-is_number (Label n) = false
-
-abbrev pub is_label : Operand → Bool
-is_label (Register v) = false
-is_label (Number v) = false
-is_label (Label n) = true
 
 -- the instruction of a name and operands, or none
 abbrev pub FormedBy : Mnemonic → List Opd → Option Instruction → Type 0

@@ -17,7 +17,7 @@ pub enum Operand<'a> {
     Label(&'a [u8]),
 }
 
-// The operands of one instruction.
+// The operands of one instruction: three at the most, so a list that no instruction has cannot be said.
 #[derive(Clone, Copy, PartialEq, Eq, Debug)]
 pub enum Operands<'a> {
     Zero,

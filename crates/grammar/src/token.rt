@@ -21,7 +21,7 @@ pub enum Class {
     Other,
 }
 
-// What a run of bytes is made of.
+// What a run of bytes is made of: a name for it, and no closure, since contracts say by it where a run ends.
 #[derive(Clone, Copy, PartialEq, Eq, Debug)]
 pub enum Run {
     Spaces,
@@ -42,19 +42,21 @@ pub enum Token<'a> {
 }
 
 // The class of a byte.
-pub(crate) fn class_of(b: u8) -> Class
-    ensures { result ≡ class_of b }
-{
-    match b as char {
-        'A'..='Z' | 'a'..='z' => Class::Letter,
-        '0'..='9' => Class::Digit,
-        '_' => Class::Underscore,
-        '$' => Class::Dollar,
-        ',' => Class::Comma,
-        ':' => Class::Colon,
-        ';' => Class::Semicolon,
-        ' ' | '\t' => Class::Space,
-        _ => Class::Other,
+impl From<u8> for Class {
+    ghost from_gives = { λ b class. class ≡ class_of b };
+
+    fn from(b: u8) -> Class {
+        match b as char {
+            'A'..='Z' | 'a'..='z' => Class::Letter,
+            '0'..='9' => Class::Digit,
+            '_' => Class::Underscore,
+            '$' => Class::Dollar,
+            ',' => Class::Comma,
+            ':' => Class::Colon,
+            ';' => Class::Semicolon,
+            ' ' | '\t' => Class::Space,
+            _ => Class::Other,
+        }
     }
 }
 
@@ -63,12 +65,12 @@ fn goes_on(run: Run, b: u8) -> bool
     ensures { result ≡ goes_on run b }
 {
     match run {
-        Run::Spaces => class_of(b) == Class::Space,
+        Run::Spaces => Class::from(b) == Class::Space,
         Run::Name => matches!(
-            class_of(b),
+            Class::from(b),
             Class::Letter | Class::Digit | Class::Underscore
         ),
-        Run::Digits => class_of(b) == Class::Digit,
+        Run::Digits => Class::from(b) == Class::Digit,
         Run::Line => b != b'\n',
     }
 }
@@ -112,7 +114,7 @@ impl<'a> Rest<'a> {
         let [first, behind @ ..] = bytes else {
             return Some((Token::End { line }, self));
         };
-        match class_of(*first) {
+        match Class::from(*first) {
             Class::Letter => {
                 let (text, rest) = self.split_at(run_len(bytes, Run::Name));
                 if text.len() > NAME_MAX {

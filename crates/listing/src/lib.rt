@@ -27,7 +27,7 @@ impl fmt::Display for Layer {
     }
 }
 
-// The number of the rule that was broken, and where.
+// The number of the rule that was broken, and where. The reasons are enums of those who refuse; a number is what is printed.
 #[derive(Clone, Copy, PartialEq, Eq, Debug)]
 pub struct Refusal {
     pub number: u32,

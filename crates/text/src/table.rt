@@ -11,7 +11,8 @@ ghost use Rattle.text.specs.Table.{name_in, address_of, Within, WordFor};
 use crate::word::{label_used, word_of};
 use grammar::{Instruction, Line};
 
-// A label: where its name stands in the text, how long it is, and how many words come before it.
+// A label: where its name stands in the text, how long it is, and how many words come before it. By place and length, and not as a
+// part of the text, since the table is the caller's, with entries from before the call.
 #[derive(Clone, Copy, PartialEq, Eq, Debug)]
 pub struct Label {
     pub place: usize,

@@ -113,7 +113,7 @@ pub(crate) fn gives(text: &[u8], expected: &[u32]) -> Result<(), Wrong>
     hold(&words, expected)
 }
 
-// Passes where the text gives just these labels.
+// Passes where the text gives just these labels: the other table and the other count, so little would be shared with `gives`.
 pub(crate) fn enters(text: &[u8], expected: &[(usize, usize, usize)]) -> Result<(), Wrong>
     ensures { OnOk result (Enters text.now expected.now) }
 {

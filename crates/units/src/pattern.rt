@@ -234,7 +234,7 @@ impl<const P: u32, const E: u32> Format<P, E> {
         (cut - s) * self.hidden() + kept as u32
     }
 
-    // n / 2^s smallest values, rounded.
+    // n / 2^s smallest values, rounded. The two come from other numbers at each caller, so they make no struct.
     pub(crate) fn rounded(self, n: u64, s: u32) -> u32
         requires { (n < 2 ^ 60) × (1 ≤ s) × (s < 60) }
         ensures value { result ≡ Rounding.round P E n (2 ^ s) }

@@ -1,4 +1,4 @@
-// The two units' functions for C: each is the method of its name.
+// The two units' functions for C: each is the method of its name. C calls each by a name of its own, so none is generic.
 #![tactic(auto)]
 
 ghost use Rattle.std.specs.Prelude.{◌≡◌};

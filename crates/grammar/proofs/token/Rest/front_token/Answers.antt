@@ -22,4 +22,4 @@ returns-in-Dollar-clause-fronts c =
     rw (h.text, h.rest) (next_register c.args.self.bytes.now c.run_len-in-Dollar.result (simp take_rest at c.run_len-in-Dollar.ensures.value) (search rules))
 
 pub returns-in-Underscore-clause-fronts : goal.returns-in-Underscore-clause-fronts
-returns-in-Underscore-clause-fronts c = no_token c.args.self.bytes.now c.class_of.result c.requires (search rules) c.in-Underscore.is
+returns-in-Underscore-clause-fronts c = no_token c.args.self.bytes.now c.from.result c.requires (search rules) c.in-Underscore.is
