@@ -1,2 +1,1 @@
-pub mod LabelLines
 pub mod Passed
