@@ -1,5 +1,8 @@
 // What a unit has to answer: tables' rows, and the checks of a unit against them.
-use std::process::Abort;
+ghost use Rattle.std.specs.Prelude.{◌↔◌, IsTrue, IsOk};
+
+use std::fmt::Debug;
+use std::test::Fail;
 use units::Unit;
 
 // Two words with their sum, difference, product and quotient.
@@ -22,30 +25,44 @@ pub(crate) struct Word {
     pub(crate) level: i8,
 }
 
-// Each pair's four answers.
-pub(crate) fn check_pairs<U: Unit>(rt: &impl Abort, unit: &U, pairs: &[Pair]) {
-    for p in pairs {
-        assert_eq!(rt; unit.add(p.a, p.b), p.sum);
-        assert_eq!(rt; unit.sub(p.a, p.b), p.difference);
-        assert_eq!(rt; unit.mul(p.a, p.b), p.product);
-        assert_eq!(rt; unit.div(p.a, p.b), p.quotient);
+// Passes just where an answer is the one that is expected, with the word that it is of.
+fn same<T: PartialEq + Debug + Copy>(answer: T, expected: T, word: u32) -> Result<(), Fail>
+    ensures { IsOk result ↔ IsTrue (T.eq answer expected) }
+{
+    if answer == expected {
+        Ok(())
+    } else {
+        Err(Fail::new(format_args!("at {word:x}: {answer:?}, and not {expected:?}")))
     }
+}
+
+// Each pair's four answers.
+pub(crate) fn check_pairs<U: Unit>(unit: &U, pairs: &[Pair]) -> Result<(), Fail> {
+    for p in pairs {
+        same(unit.add(p.a, p.b), p.sum, p.a)?;
+        same(unit.sub(p.a, p.b), p.difference, p.a)?;
+        same(unit.mul(p.a, p.b), p.product, p.a)?;
+        same(unit.div(p.a, p.b), p.quotient, p.a)?;
+    }
+    Ok(())
 }
 
 // Each word's five answers.
-pub(crate) fn check_words<U: Unit>(rt: &impl Abort, unit: &U, words: &[Word]) {
+pub(crate) fn check_words<U: Unit>(unit: &U, words: &[Word]) -> Result<(), Fail> {
     for w in words {
-        assert_eq!(rt; unit.floor(w.a), w.floor);
-        assert_eq!(rt; unit.abs(w.a), w.abs);
-        assert_eq!(rt; unit.sqrt(w.a), w.sqrt);
-        assert_eq!(rt; unit.negative(w.a), w.negative);
-        assert_eq!(rt; unit.level(w.a), w.level);
+        same(unit.floor(w.a), w.floor, w.a)?;
+        same(unit.abs(w.a), w.abs, w.a)?;
+        same(unit.sqrt(w.a), w.sqrt, w.a)?;
+        same(unit.negative(w.a), w.negative, w.a)?;
+        same(unit.level(w.a), w.level, w.a)?;
     }
+    Ok(())
 }
 
 // The word of v / 65536, for each v beside its word.
-pub(crate) fn check_numbers<U: Unit>(rt: &impl Abort, unit: &U, numbers: &[(i32, u32)]) {
+pub(crate) fn check_numbers<U: Unit>(unit: &U, numbers: &[(i32, u32)]) -> Result<(), Fail> {
     for (v, word) in numbers {
-        assert_eq!(rt; unit.number(*v), *word);
+        same(unit.number(*v), *word, *word)?;
     }
+    Ok(())
 }

@@ -1,5 +1,6 @@
 // Words of the half unit: published ones, edges of the format, and what is not a number.
 use crate::cases::{Pair, Word, check_numbers, check_pairs, check_words};
+use std::test::Fail;
 use units::{Half, Unit};
 
 const PAIRS: [Pair; 30] = [
@@ -576,18 +577,18 @@ const NUMBERS: [(i32, u32); 19] = [
 ];
 
 #[test]
-fn pairs(rt: HostRuntime) {
-    check_pairs(&rt, &Half, &PAIRS);
+fn pairs() -> Result<(), Fail> {
+    check_pairs(&Half, &PAIRS)
 }
 
 #[test]
-fn words(rt: HostRuntime) {
-    check_words(&rt, &Half, &WORDS);
+fn words() -> Result<(), Fail> {
+    check_words(&Half, &WORDS)
 }
 
 #[test]
-fn numbers(rt: HostRuntime) {
-    check_numbers(&rt, &Half, &NUMBERS);
+fn numbers() -> Result<(), Fail> {
+    check_numbers(&Half, &NUMBERS)
 }
 
 #[test]

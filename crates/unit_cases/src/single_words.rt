@@ -1,5 +1,6 @@
 // Words of the single unit: published ones, edges of the format, and what is not a number.
 use crate::cases::{Pair, Word, check_numbers, check_pairs, check_words};
+use std::test::Fail;
 use units::Single;
 
 const PAIRS: [Pair; 18] = [
@@ -400,16 +401,16 @@ const NUMBERS: [(i32, u32); 19] = [
 ];
 
 #[test]
-fn pairs(rt: HostRuntime) {
-    check_pairs(&rt, &Single, &PAIRS);
+fn pairs() -> Result<(), Fail> {
+    check_pairs(&Single, &PAIRS)
 }
 
 #[test]
-fn words(rt: HostRuntime) {
-    check_words(&rt, &Single, &WORDS);
+fn words() -> Result<(), Fail> {
+    check_words(&Single, &WORDS)
 }
 
 #[test]
-fn numbers(rt: HostRuntime) {
-    check_numbers(&rt, &Single, &NUMBERS);
+fn numbers() -> Result<(), Fail> {
+    check_numbers(&Single, &NUMBERS)
 }

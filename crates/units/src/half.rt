@@ -1,5 +1,5 @@
 // The half unit: IEEE binary16 in the low 16 bits of a word, by integers.
-ghost use Rattle.std.specs.Prelude.{◌≡◌, ◌+◌, ◌*◌, ◌/◌, ◌%◌, ◌^◌, ◌<◌, if◌then◌else◌};
+ghost use Rattle.std.specs.Prelude.{◌≡◌, ◌==◌, ◌+◌, ◌*◌, ◌/◌, ◌%◌, ◌^◌, ◌<◌, if◌then◌else◌};
 ghost use Rattle.ieee.specs.Formats as Formats;
 ghost use Rattle.ieee.specs.Rounding as Rounding;
 ghost use Rattle.ieee.specs.Operations as Operations;
@@ -26,6 +26,17 @@ struct Exact {
 }
 
 impl Finite<11, 15> {
+    // An infinity of this sign, or no number where the value is 0.
+    fn endless_unless_zero(self, s: bool) -> u32
+        ensures { result ≡ (if self.pattern == 0 then Formats.quiet 11 15 else Formats.signed 11 15 s (Formats.infinity 11 15)) }
+    {
+        if self.pattern == 0 {
+            HALF.quiet()
+        } else {
+            HALF.endless(s)
+        }
+    }
+
     // How many smallest values the magnitude is.
     fn count(self) -> u64
         ensures value { result ≡ Formats.steps 11 self.pattern }
@@ -77,7 +88,13 @@ fn sum(x: Value<11, 15>, y: Value<11, 15>) -> u32
         (Value::Finite(x), Value::Finite(y)) => Exact::sum(x, y).word(),
         (Value::Infinite(s), Value::Finite(_)) => HALF.endless(s),
         (Value::Finite(_), Value::Infinite(t)) => HALF.endless(t),
-        (Value::Infinite(s), Value::Infinite(t)) => endless_unless(s != t, s),
+        (Value::Infinite(s), Value::Infinite(t)) => {
+            if s == t {
+                HALF.endless(s)
+            } else {
+                HALF.quiet()
+            }
+        }
         (Value::NotNumber, _) | (_, Value::NotNumber) => HALF.quiet(),
     }
 }
@@ -104,8 +121,8 @@ fn product(x: Value<11, 15>, y: Value<11, 15>) -> u32
 {
     match (x, y) {
         (Value::Finite(x), Value::Finite(y)) => finite_product(x, y),
-        (Value::Infinite(s), Value::Finite(y)) => endless_unless(y.pattern == 0, s != y.negative),
-        (Value::Finite(x), Value::Infinite(t)) => endless_unless(x.pattern == 0, x.negative != t),
+        (Value::Infinite(s), Value::Finite(y)) => y.endless_unless_zero(s != y.negative),
+        (Value::Finite(x), Value::Infinite(t)) => x.endless_unless_zero(x.negative != t),
         (Value::Infinite(s), Value::Infinite(t)) => HALF.endless(s != t),
         (Value::NotNumber, _) | (_, Value::NotNumber) => HALF.quiet(),
     }
@@ -153,7 +170,7 @@ fn quotient(x: Value<11, 15>, y: Value<11, 15>) -> u32
     match (x, y) {
         (Value::Finite(x), Value::Finite(y)) => {
             if y.pattern == 0 {
-                endless_unless(x.pattern == 0, x.negative != y.negative)
+                x.endless_unless_zero(x.negative != y.negative)
             } else {
                 finite_quotient(x, y)
             }
@@ -165,14 +182,7 @@ fn quotient(x: Value<11, 15>, y: Value<11, 15>) -> u32
     }
 }
 
-// An infinity, or nothing where `none`.
-fn endless_unless(none: bool, s: bool) -> u32
-    ensures { result ≡ (if none then Formats.quiet 11 15 else Formats.signed 11 15 s (Formats.infinity 11 15)) }
-{
-    if none { HALF.quiet() } else { HALF.endless(s) }
-}
-
-// v / 65536, rounded to single and then to half.
+// v / 65536, rounded to single and then to half. The single unit's has the same three lines, and another formula.
 fn number(v: i32) -> u32
     ensures { result ≡ half.number v }
 {

@@ -6,7 +6,7 @@ use Rattle.units.proofs.Halves.{quotient_zero, quotient_some, quotient_endless}
 pub returns-then-y-eq0 : goal.returns-then-y-eq0
 returns-then-y-eq0 c =
     let i = c.in-Finite-Finite in
-    rw (i.is-0, i.is-1) (c.endless_unless.ensures ∙ quotient_zero i.x.negative i.y.negative i.x.pattern i.y.pattern c.if-y-eq0.true)
+    rw (i.is-0, i.is-1) (c.endless_unless_zero.ensures ∙ quotient_zero i.x.negative i.y.negative i.x.pattern i.y.pattern c.if-y-eq0.true)
 
 pub returns-else-y-eq0 : goal.returns-else-y-eq0
 returns-else-y-eq0 c =
