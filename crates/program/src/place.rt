@@ -36,6 +36,7 @@ impl Place<'_> {
     pub(crate) fn feeder(self) -> Option<Setx>
         ensures { Feeder self.entry.words.now self.entry.address result }
     {
+        // A `for`, since words of two kinds end it, and only one of them is found.
         for address in (0..self.address).rev() {
             let place = Place {
                 words: self.words,

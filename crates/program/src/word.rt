@@ -2,7 +2,7 @@
 ghost use Rattle.std.specs.Prelude.{◌≡◌, ◌<◌, ◌≤◌};
 ghost use Rattle.program.specs.Words.{Decodes};
 
-use operations::{Binary, Unary};
+use operations::{Binary, Unary, UnknownCode};
 
 // A destination d is register 16 + d, and 0 discards; a source is a register.
 #[derive(Clone, Copy, PartialEq, Eq, Debug)]
@@ -23,9 +23,16 @@ pub enum Instruction {
     Loop(usize),
 }
 
-// That a word is too wide, or its code is not in use.
+// The error of a word that is too wide, or whose code is not in use.
 #[derive(Clone, Copy, PartialEq, Eq, Debug)]
 pub struct UnknownWord;
+
+// A word with such a code is no instruction.
+impl From<UnknownCode> for UnknownWord {
+    fn from(_code: UnknownCode) -> UnknownWord {
+        UnknownWord
+    }
+}
 
 // The instruction of a word.
 #[tactic(auto, using(std::proofs::lemmas::Bool::Decides::nat_tests), unfolding(crate::specs::Words::decoded))]
@@ -40,17 +47,8 @@ impl TryFrom<u32> for Instruction {
         let b = word / 4 % 32;
         match word / 65536 {
             code if code > 15 => Err(UnknownWord),
-            code @ 0..=3 => Ok(Instruction::Binary(
-                Binary::try_from(code).map_err(|_| UnknownWord)?,
-                d,
-                a,
-                b,
-            )),
-            code @ 4..=6 => Ok(Instruction::Unary(
-                Unary::try_from(code).map_err(|_| UnknownWord)?,
-                d,
-                a,
-            )),
+            code @ 0..=3 => Ok(Instruction::Binary(Binary::try_from(code)?, d, a, b)),
+            code @ 4..=6 => Ok(Instruction::Unary(Unary::try_from(code)?, d, a)),
             8 => Ok(Instruction::Cmov(d, a, b)),
             10 => Ok(Instruction::Done),
             13 => Ok(Instruction::Bltz(a, (d * 128 + word % 128) as usize)),
