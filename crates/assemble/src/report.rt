@@ -25,7 +25,7 @@ impl From<AllocError> for Failure {
     }
 }
 
-// The lines of a text's words, assembled with 2,048 places for words and for labels.
+// The lines of a text's words, assembled with 2,048 places for words and for labels: arrays, since the call is lent its places.
 pub fn report_on(heap: Global, text: &[u8]) -> Result<Vec<u8>, Failure>
     ensures { Prints text.now result }
 {

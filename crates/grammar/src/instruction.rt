@@ -36,7 +36,7 @@ pub enum Instruction<'a> {
     Nop,
 }
 
-// The instruction of this name.
+// The instruction of this name. A function, since `TryFrom` would need an error that says no more than `None`.
 fn mnemonic_of(name: &[u8]) -> Option<Mnemonic>
     ensures { NamedBy name.now result }
 {

@@ -17,7 +17,7 @@ pub enum Operand<'a> {
     Label(&'a [u8]),
 }
 
-// The operands of one instruction: three at the most, so a list that no instruction has cannot be said.
+// The operands of one instruction: three at the most, so a list longer than any instruction's cannot be said.
 #[derive(Clone, Copy, PartialEq, Eq, Debug)]
 pub enum Operands<'a> {
     Zero,
@@ -70,7 +70,7 @@ fn register_of(text: &[u8]) -> Option<u32>
     }
 }
 
-// The operand that a token is.
+// The operand that a token is. A function, since `TryFrom` would need an error that says no more than `None`.
 fn operand_of(token: Token<'_>) -> Option<Operand<'_>>
     ensures { OperandOf token.entry result }
 {

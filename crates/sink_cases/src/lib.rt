@@ -27,14 +27,14 @@ fn put_into<T: Layout<N>, const N: usize>(
     Memory::over(memory).put(place, colours)
 }
 
-// The same into numbers, by the name of what they hold.
+// Puts one block into a memory of numbers.
 pub(crate) fn put_plain(memory: &mut [u16], place: usize, colours: &[u16; 16]) -> Result<(), Fault>
     ensures { memory.new ≡ written 16 place (plain_block colours.now) memory.old }
 {
     put_into(memory, place, colours)
 }
 
-// The same into bytes, by the name of what they hold.
+// Puts one block into a memory of bytes.
 pub(crate) fn put_packed(bytes: &mut [u8], place: usize, colours: &[u16; 16]) -> Result<(), Fault>
     ensures { bytes.new ≡ written 24 place (packed_bytes colours.now) bytes.old }
 {

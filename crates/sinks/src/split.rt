@@ -35,6 +35,7 @@ impl<A: Sink, B: Sink> Sink for Split<A, B> {
         (self.first.count() + self.second.count()).min(MOST)
     }
 
+    // The same choice as in `get`, but a choice made once would have to lend one of two sinks for writing.
     fn put(&mut self, place: usize, colours: &[u16; 16]) -> Result<(), Fault>
         ensures outcome { Put (joined (A.Pictured.picture self.old.first) (B.Pictured.picture self.old.second)) place colours.now result (joined (A.Pictured.picture self.new.first) (B.Pictured.picture self.new.second)) }
         ensures lent { A.Pictured.lent self.new.first ++ B.Pictured.lent self.new.second ≡ A.Pictured.lent self.old.first ++ B.Pictured.lent self.old.second }

@@ -72,7 +72,8 @@ fn first_reading(text: &[u8], words: usize, labels: &mut [Label]) -> Result<Coun
     Ok(counts)
 }
 
-// Whether each label that a good text uses is known, or the first line where one is not.
+// Whether each label that a good text uses is known, or the first line where one is not. That a text is ready is asked here and in two
+// functions more: it speaks of the places for words too, which no struct holds.
 fn check_words(table: Table) -> Result<(), Fault>
     requires { (W : ℕ) × Ready table.text.now W table.labels.now }
     ensures { (s : State) (W L : ℕ) → Whole table.entry.text.now W L s → table.entry.labels.now ≡ s.defs → LabelsRead table.entry.text.now s result }
@@ -83,7 +84,8 @@ fn check_words(table: Table) -> Result<(), Fault>
     Ok(())
 }
 
-// Writes the words of a good text, up to the first line that uses a label in vain.
+// Writes the words of a good text, up to the first line that uses a label in vain. At their numbers, since what is written through
+// `iter_mut` is not known afterwards.
 fn put_words(table: Table, words: &mut [u32]) -> Result<(), Fault>
     requires { Ready table.text.now (length words.old) table.labels.now }
     ensures { (s : State) (L : ℕ) → Whole table.entry.text.now (length words.old) L s → table.entry.labels.now ≡ s.defs → LabelsRead table.entry.text.now s result × OnOk result (words.new ≡ words_of table.entry.text.now s s.code ++ drop (length s.code) words.old) }
@@ -110,7 +112,8 @@ fn is_too_long(text: &[u8]) -> bool
     text.len() > 65535
 }
 
-// Assembles a text: its labels go into the table, its words are written only if all is well.
+// Assembles a text: its labels go into the table, its words are written only if all is well. Three slices, and no struct, as callers have
+// them.
 pub fn assemble(text: &[u8], words: &mut [u32], labels: &mut [Label]) -> Result<Counts, Fault>
     ensures outcome { Outcome text.now words.old labels.old result words.new labels.new }
     ensures alone { OneOutcome text.now words.old labels.old }

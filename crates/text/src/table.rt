@@ -1,5 +1,5 @@
 // The labels of a text, in a table that the caller lends.
-ghost use Rattle.std.specs.Prelude.{◌≡◌, ◌^◌, ◌<◌, ◌≤◌, ◌↔◌, IsTrue};
+ghost use Rattle.std.specs.Prelude.{◌≡◌, ◌^◌, ◌<◌, ◌≤◌, ◌↔◌, IsTrue, length};
 ghost use Rattle.std.specs.List.{All};
 ghost use Rattle.std.specs.Option.{option_map};
 ghost use Rattle.std.specs.Str.{bytes_eq};
@@ -53,6 +53,7 @@ pub(crate) struct Table<'a> {
     pub(crate) text: &'a [u8],
     pub(crate) labels: &'a [Label],
     ghost within: { All (Within text.now) labels.now },
+    ghost short: { length text.now ≤ 65535 },
 }
 
 impl Table<'_> {

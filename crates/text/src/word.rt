@@ -38,8 +38,8 @@ fn pack(code: u32, d: u32, a: u32, b: u32) -> u32
     code * 0x1_0000 + (d - 16) * 0x1000 + a * 0x80 + b * 4
 }
 
-// The word of an instruction, at the address of the label that it uses. That it is formed is asked here and in two functions more, since
-// an instruction is an enum, and only a struct keeps a fact.
+// The word of an instruction, at the address of the label that it uses. That it is formed is asked here and in two functions more: a
+// struct that keeps it would be made and taken apart again in each.
 pub(crate) fn word_of(code: Instruction, target: u32) -> u32
     requires { (Formed (ins code)) × (target ≤ 2047) }
     ensures { result ≡ word_of (ins code.entry) target }

@@ -26,7 +26,6 @@ fn code_of<'a>(line: TextLine<'a>) -> Option<Instruction<'a>>
 impl<'a> Words<'a> {
     // All words of a good text with its labels.
     pub(crate) fn of(table: Table<'a>) -> Words<'a>
-        requires { length table.text.now ≤ 65535 }
         ensures table { result.table ≡ table.entry }
         ensures at { result.lines.at ≡ 0 }
         ensures count { result.lines.count ≡ 0 }

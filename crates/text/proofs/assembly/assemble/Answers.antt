@@ -14,9 +14,9 @@ returns-in_err-counts c =
     let p = err_from_is_err_and c.from_residual.result c.from_residual.ensures.1 in
     rw (p.1, p.2) (settled c.args.text.now c.args.words.now c.args.labels.now _ _ _ (c.in_err-counts.ensures c.args.words.now refl))
 
-pub invariant_of-table : goal.invariant_of-table
-invariant_of-table c =
-    record { within = within c.args.text.now c.args.words.now c.args.labels.now c.first_reading.new.labels c.in_ok-counts.counts c.in_ok-counts.ensures }
+pub invariant_of-table-clause-within : goal.invariant_of-table-clause-within
+invariant_of-table-clause-within c =
+    within c.args.text.now c.args.words.now c.args.labels.now c.first_reading.new.labels c.in_ok-counts.counts c.in_ok-counts.ensures
 
 pub returns-in_err-write_words : goal.returns-in_err-write_words
 returns-in_err-write_words c =

@@ -9,8 +9,8 @@ loop-line-init c =
     let same = c.into_iter-line-iterator.ensures.into_iter_gives in
     rw same (lines.text, rw (lines.at, lines.count) (begins c.args.text.now c.args.words c.args.labels.now))
 
-pub invariant_of-table : goal.invariant_of-table
-invariant_of-table c = record { within = within c.loop-line.invariant.1 }
+pub invariant_of-table-clause-within : goal.invariant_of-table-clause-within
+invariant_of-table-clause-within c = within c.loop-line.invariant.1
 
 pub loop-line-preserved : goal.loop-line-preserved
 loop-line-preserved c =
