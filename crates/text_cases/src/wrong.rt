@@ -16,6 +16,7 @@ pub(crate) enum Wrong {
         expected: u32,
     },
     Label {
+        place: usize,
         is: Label,
         expected: Label,
     },

@@ -4,4 +4,4 @@ use Rattle.text_cases.proofs.expect.is_foreign.Goals as goal
 
 pub returns : goal.returns
 returns c =
-    passed (λ _. rw c.at_line.ensures at c.in_ok-refused.ensures) c.refused-2.result c.refused-2.ensures
+    passed (λ _. c.in_ok-refused.ensures) c.refused-2.result c.refused-2.ensures
