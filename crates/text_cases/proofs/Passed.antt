@@ -4,7 +4,7 @@ use Rattle.listing.specs.declared.Refusal.{Refusal}
 use Rattle.text.specs.declared.table.Counts.{Counts}
 use Rattle.text.specs.declared.table.Label.{Label}
 use Rattle.text_cases.specs.Answers.{Answered, AnsweredIn}
-use Rattle.text_cases.specs.Passes.{Gives, Enters, Refuses, Fits, Stops}
+use Rattle.text_cases.specs.Passes.{Gives, Enters, Refuses, Fits}
 use Rattle.text_cases.specs.Places.{Begins, old_word, old_label, old_words, old_labels}
 
 -- what follows where a check passes
@@ -23,11 +23,6 @@ entered text expected words labels c e a b =
 pub turned : (text words : List ℕ) (labels : List Label) (q told : Refusal) → q ≡ told → Answered text old_words old_labels (Err q) words labels → Begins old_word words [] → Refuses text told
 turned text words labels q told e a b =
     let P : Refusal → Type 0 = λ k. Answered text old_words old_labels (Err k) words labels in (words, (labels, (subst P e a, b)))
-
-pub stopped : (room : Counts) (text words : List ℕ) (labels : List Label) (entered : List Label) (q told : Refusal) → q ≡ told → AnsweredIn room text old_words old_labels (Err q) words labels → Begins old_word words [] → Begins old_label labels entered → Stops text room told entered
-stopped room text words labels entered q told e a b l =
-    let P : Refusal → Type 0 = λ k. AnsweredIn room text old_words old_labels (Err k) words labels in
-    (words, (labels, (subst P e a, b, l)))
 
 pub fitted : (room : Counts) (text words : List ℕ) (labels : List Label) (c : Counts) → c ≡ room → AnsweredIn room text old_words old_labels (Ok c) words labels → Fits text room
 fitted room text words labels c e a =

@@ -3,10 +3,10 @@ ghost use Rattle.std.proofs.Common.{rules};
 ghost use Rattle.std.specs.Prelude.{◌≡◌, ◌≤◌, ◌↔◌, length, IsOk, IsTrue, OnOk};
 ghost use Rattle.text_cases.specs.Answers.{AnsweredIn, refused_at};
 ghost use Rattle.text_cases.specs.Passes.{Gives, Enters, Refuses, Fits, Stops};
-ghost use Rattle.text_cases.specs.Places.{IsAt, Begins};
+ghost use Rattle.text_cases.specs.Places.{old_word, old_label, IsAt, Begins};
 
 use crate::answer;
-use crate::wrong::{Wrong, check};
+use crate::wrong::{Value, Wrong, check};
 use listing::Refusal;
 use std::alloc::Global;
 use text::{Counts, Label};
@@ -49,15 +49,12 @@ macro_rules! counts {
 
 pub(crate) use counts;
 
-// A value that the places hold, a word or a label, which is equal just to itself.
-pub(crate) trait Held: Copy + PartialEq {
+// A word or a label, which the places hold: it is equal just to itself, and known where a check fails.
+pub(crate) trait Held: Copy + PartialEq + Into<Value> {
     // What the places hold before a text is assembled.
     const OLD: Self;
 
     ghost OLD: { Self };
-
-    // What a check says of a place that holds another value.
-    fn wrong(place: usize, is: Self, expected: Self) -> Wrong;
 
     ghost same: { (a b : Self) → IsTrue (Self.eq a b) ↔ (a ≡ b) };
 }
@@ -65,15 +62,7 @@ pub(crate) trait Held: Copy + PartialEq {
 impl Held for u32 {
     const OLD: u32 = 0xf_ffff;
 
-    ghost OLD = { 1048575 };
-
-    fn wrong(place: usize, is: u32, expected: u32) -> Wrong {
-        Wrong::Word {
-            place,
-            is,
-            expected,
-        }
-    }
+    ghost OLD = { old_word };
 
     ghost same = { Prim.search rules };
 }
@@ -81,15 +70,7 @@ impl Held for u32 {
 impl Held for Label {
     const OLD: Label = label!(70, 80, 90);
 
-    ghost OLD = { record { place = 70; length = 80; address = 90 } };
-
-    fn wrong(place: usize, is: Label, expected: Label) -> Wrong {
-        Wrong::Label {
-            place,
-            is,
-            expected,
-        }
-    }
+    ghost OLD = { old_label };
 
     ghost same = { Prim.search rules };
 }
@@ -110,7 +91,11 @@ pub(crate) fn hold<T: Held>(places: &[T], front: &[T]) -> Result<(), Wrong>
     for (i, is) in places.iter().enumerate() {
         let expected = value_at(front, i);
         if *is != expected {
-            return Err(T::wrong(i, *is, expected));
+            return Err(Wrong::Place {
+                place: i,
+                is: (*is).into(),
+                expected: expected.into(),
+            });
         }
     }
     Ok(())

@@ -7,18 +7,32 @@ use std::fmt::Display;
 use std::test::Fail;
 use text::Label;
 
+// What a place holds.
+#[derive(Debug, Drop)]
+pub(crate) enum Value {
+    Word(u32),
+    Label(Label),
+}
+
+impl From<u32> for Value {
+    fn from(word: u32) -> Value {
+        Value::Word(word)
+    }
+}
+
+impl From<Label> for Value {
+    fn from(label: Label) -> Value {
+        Value::Label(label)
+    }
+}
+
 #[derive(Debug, Drop)]
 pub(crate) enum Wrong {
     Not(&'static str),
-    Word {
+    Place {
         place: usize,
-        is: u32,
-        expected: u32,
-    },
-    Label {
-        place: usize,
-        is: Label,
-        expected: Label,
+        is: Value,
+        expected: Value,
     },
     Refused(Refusal),
     Memory(AllocError),
