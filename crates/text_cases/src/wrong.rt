@@ -1,5 +1,7 @@
 // What a check of an example found: `?` makes a test's failure of it.
-ghost use Rattle.std.specs.Prelude.{IsTrue, IsOk, OnOk, ◌↔◌};
+ghost use Rattle.std.specs.Prelude.{◌≡◌, ◌↔◌, IsTrue, IsOk, OnOk};
+ghost use Rattle.text_cases.specs.declared.wrong.Value.TheVariants.{Word, Label};
+ghost use Rattle.text_cases.specs.declared.wrong.Wrong.TheVariants.{Refused, Memory};
 
 use listing::Refusal;
 use std::alloc::AllocError;
@@ -15,12 +17,16 @@ pub(crate) enum Value {
 }
 
 impl From<u32> for Value {
+    ghost from_gives = { λ word value. value ≡ Word word };
+
     fn from(word: u32) -> Value {
         Value::Word(word)
     }
 }
 
 impl From<Label> for Value {
+    ghost from_gives = { λ label value. value ≡ Label label };
+
     fn from(label: Label) -> Value {
         Value::Label(label)
     }
@@ -39,12 +45,16 @@ pub(crate) enum Wrong {
 }
 
 impl From<Refusal> for Wrong {
+    ghost from_gives = { λ refusal wrong. wrong ≡ Refused refusal };
+
     fn from(refusal: Refusal) -> Wrong {
         Wrong::Refused(refusal)
     }
 }
 
 impl From<AllocError> for Wrong {
+    ghost from_gives = { λ error wrong. wrong ≡ Memory error };
+
     fn from(error: AllocError) -> Wrong {
         Wrong::Memory(error)
     }
