@@ -185,33 +185,33 @@ fn lines_outside_the_grammar(rt: HostRuntime) -> Result<(), Fail> {
 
 #[test]
 fn labels_twice() -> Result<(), Wrong> {
-    refused(b"x:\nx:", at_line(22, 2))?;
-    refused(b"x:nop\n\n;c\n x : done", at_line(22, 4))?;
-    refused(b"a:\nb:\nb:\na:", at_line(22, 3))?;
-    refused(b"x:\nX:\nx:", at_line(22, 3))?;
-    refused(b"abcdefghijklmnop:\nabcdefghijklmnop:", at_line(22, 2))?;
-    refused(b"nop:nop\nnop:nop\nfoo", at_line(22, 2))
+    refused(b"x:\nx:", at_line!(22, 2))?;
+    refused(b"x:nop\n\n;c\n x : done", at_line!(22, 4))?;
+    refused(b"a:\nb:\nb:\na:", at_line!(22, 3))?;
+    refused(b"x:\nX:\nx:", at_line!(22, 3))?;
+    refused(b"abcdefghijklmnop:\nabcdefghijklmnop:", at_line!(22, 2))?;
+    refused(b"nop:nop\nnop:nop\nfoo", at_line!(22, 2))
 }
 
 #[test]
 fn unknown_labels() -> Result<(), Wrong> {
-    refused(b"loop x", at_line(24, 1))?;
-    refused(b"nop\nbltz $0,b\nloop a", at_line(24, 2))?;
-    refused(b"x:loop x\n\nbltz $1,X\nloop y", at_line(24, 3))?;
-    refused(b"loop nop\nnop", at_line(24, 1))?;
-    refused(b"loop x;x:\nxx:\nx_:", at_line(24, 1))?;
-    refused(b"loop x\nfoo", at_line(21, 2))?;
-    refused(b"loop x\ny:\ny:", at_line(22, 3))
+    refused(b"loop x", at_line!(24, 1))?;
+    refused(b"nop\nbltz $0,b\nloop a", at_line!(24, 2))?;
+    refused(b"x:loop x\n\nbltz $1,X\nloop y", at_line!(24, 3))?;
+    refused(b"loop nop\nnop", at_line!(24, 1))?;
+    refused(b"loop x;x:\nxx:\nx_:", at_line!(24, 1))?;
+    refused(b"loop x\nfoo", at_line!(21, 2))?;
+    refused(b"loop x\ny:\ny:", at_line!(22, 3))
 }
 
 #[test]
 fn numbers_of_the_faults(rt: HostRuntime) {
-    assert_eq!(rt; Refusal::from(Fault::TooLong), at_line(20, 0));
-    assert_eq!(rt; Refusal::from(Fault::Grammar(1)), at_line(21, 1));
-    assert_eq!(rt; Refusal::from(Fault::Twice(2)), at_line(22, 2));
-    assert_eq!(rt; Refusal::from(Fault::NoRoom(65536)), at_line(23, 65536));
+    assert_eq!(rt; Refusal::from(Fault::TooLong), at_line!(20, 0));
+    assert_eq!(rt; Refusal::from(Fault::Grammar(1)), at_line!(21, 1));
+    assert_eq!(rt; Refusal::from(Fault::Twice(2)), at_line!(22, 2));
+    assert_eq!(rt; Refusal::from(Fault::NoRoom(65536)), at_line!(23, 65536));
     assert_eq!(rt;
         Refusal::from(Fault::Unknown(u32::MAX)),
-        at_line(24, u32::MAX)
+        at_line!(24, u32::MAX)
     );
 }

@@ -1,5 +1,5 @@
 // Texts that are good, with their words and their labels.
-use crate::expect::{enters, gives};
+use crate::expect::{enters, gives, label};
 use crate::wrong::{Wrong, noted};
 use std::test::Fail;
 
@@ -175,9 +175,18 @@ fn names_and_labels() -> Result<(), Wrong> {
         b"nop\nbltz:bltz $1,bltz\nloop add\nadd:",
         &[0, 0xd0081, 0xf0003],
     )?;
-    enters(b"sub:\nmul:\ndiv:", &[(0, 3, 0), (5, 3, 0), (10, 3, 0)])?;
-    enters(b"floor:\nabs:\nsqrt:", &[(0, 5, 0), (7, 3, 0), (12, 4, 0)])?;
-    enters(b"cmov:\nsetx:\ndone:", &[(0, 4, 0), (6, 4, 0), (12, 4, 0)])?;
+    enters(
+        b"sub:\nmul:\ndiv:",
+        &[label!(0, 3, 0), label!(5, 3, 0), label!(10, 3, 0)],
+    )?;
+    enters(
+        b"floor:\nabs:\nsqrt:",
+        &[label!(0, 5, 0), label!(7, 3, 0), label!(12, 4, 0)],
+    )?;
+    enters(
+        b"cmov:\nsetx:\ndone:",
+        &[label!(0, 4, 0), label!(6, 4, 0), label!(12, 4, 0)],
+    )?;
     gives(b"a:nop\nA:loop a\nloop A", &[0, 0xf0000, 0xf0001])?;
     gives(
         b"nop\nl_1:nop\nl_2:loop l_1\nloop l_2",
@@ -192,9 +201,14 @@ fn names_and_labels() -> Result<(), Wrong> {
         &[0, 0xf0000],
     )?;
     enters(b"nop\ndone;x:", &[])?;
-    enters(b"x:", &[(0, 1, 0)])?;
+    enters(b"x:", &[label!(0, 1, 0)])?;
     enters(
         b"x:nop\n\n \t y_2 : done\nz:;z:\nz2:\n",
-        &[(0, 1, 0), (10, 3, 1), (21, 1, 2), (27, 2, 2)],
+        &[
+            label!(0, 1, 0),
+            label!(10, 3, 1),
+            label!(21, 1, 2),
+            label!(27, 2, 2),
+        ],
     )
 }

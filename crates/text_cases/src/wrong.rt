@@ -1,5 +1,7 @@
 // What a check of an example found: `?` makes a test's failure of it.
-ghost use Rattle.std.specs.Prelude.{IsTrue, IsOk, OnOk, ◌↔◌};
+ghost use Rattle.std.specs.Prelude.{◌≡◌, ◌↔◌, IsTrue, IsOk, OnOk};
+ghost use Rattle.text_cases.specs.declared.wrong.Value.TheVariants.{Word, Label};
+ghost use Rattle.text_cases.specs.declared.wrong.Wrong.TheVariants.{Refused, Memory};
 
 use listing::Refusal;
 use std::alloc::AllocError;
@@ -7,29 +9,52 @@ use std::fmt::Display;
 use std::test::Fail;
 use text::Label;
 
+// What a place holds.
+#[derive(Debug, Drop)]
+pub(crate) enum Value {
+    Word(u32),
+    Label(Label),
+}
+
+impl From<u32> for Value {
+    ghost from_gives = { λ word value. value ≡ Word word };
+
+    fn from(word: u32) -> Value {
+        Value::Word(word)
+    }
+}
+
+impl From<Label> for Value {
+    ghost from_gives = { λ label value. value ≡ Label label };
+
+    fn from(label: Label) -> Value {
+        Value::Label(label)
+    }
+}
+
 #[derive(Debug, Drop)]
 pub(crate) enum Wrong {
     Not(&'static str),
-    Word {
+    Place {
         place: usize,
-        is: u32,
-        expected: u32,
-    },
-    Label {
-        is: Label,
-        expected: Label,
+        is: Value,
+        expected: Value,
     },
     Refused(Refusal),
     Memory(AllocError),
 }
 
 impl From<Refusal> for Wrong {
+    ghost from_gives = { λ refusal wrong. wrong ≡ Refused refusal };
+
     fn from(refusal: Refusal) -> Wrong {
         Wrong::Refused(refusal)
     }
 }
 
 impl From<AllocError> for Wrong {
+    ghost from_gives = { λ error wrong. wrong ≡ Memory error };
+
     fn from(error: AllocError) -> Wrong {
         Wrong::Memory(error)
     }

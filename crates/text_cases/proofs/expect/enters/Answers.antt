@@ -5,4 +5,4 @@ use Rattle.text_cases.proofs.expect.enters.Goals as goal
 
 pub returns : goal.returns
 returns c =
-    passed (entered _ _ _ _ _ (eqb-true _ _ c.in_ok-check.ensures.only) c.in_ok-counts.ensures) c.hold_labels.result c.hold_labels.ensures.only
+    passed (entered _ _ _ _ _ (eqb-true _ _ c.in_ok-check.ensures.only) c.in_ok-counts.ensures) c.hold.result c.hold.ensures.only

@@ -4,4 +4,4 @@ use Rattle.text_cases.specs.Places.{IsAt}
 use Rattle.text_cases.proofs.expect.hold.Given as goal
 
 abbrev pub invariant-loop-i : goal.invariant-loop-i
-invariant-loop-i l = (length l.front ≤ length l.words) × ((k : ℕ) → k < l.i → IsAt l.front k (get_or l.words k 0))
+invariant-loop-i g l = (length l.front ≤ length l.places) × ((k : ℕ) → k < l.i → IsAt g.T.Held.OLD l.front k (get_or l.places k g.T.Held.OLD))

@@ -1,8 +1,0 @@
--- The refusal is the one that was told, and the places hold what they must.
-use Rattle.std.proofs.Common.{◌∙◌}
-use Rattle.text_cases.proofs.Passed.{passed, stopped}
-use Rattle.text_cases.proofs.expect.stops.Goals as goal
-
-pub returns : goal.returns
-returns c =
-    passed (stopped _ _ _ _ _ _ _ _ c.counts-room.ensures (c.in_ok-is_told.ensures.only ∙ c.at_line.ensures) c.in-Err.ensures c.in_ok-hold.ensures.only) c.hold_labels.result c.hold_labels.ensures.only
