@@ -20,7 +20,7 @@ fn keeps<F: Fn(Place) -> bool>(words: &[u32], breaks: F) -> Result<(), u32>
         → IsTrue b ↔ Breaks rule p.words.now p.address }
     ensures { Found (Breaks rule words.now) (result_err result) }
 {
-    // A `for`, since the address that is found is the error, and no find.
+    // A loop, since an address that is found is answered as an error.
     for address in 0..words.len() {
         if breaks(Place { words, address }) {
             return Err(address as u32);
