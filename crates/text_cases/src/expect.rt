@@ -132,7 +132,7 @@ pub(crate) struct Stop {
     pub(crate) entered: &'static [Label],
 }
 
-// The answer to a text with only the first places of the slices.
+// The answer to a text with only the first places of the slices, which are handed on.
 pub(crate) fn answer_in(
     text: &[u8],
     words: &mut [u32],

@@ -20,7 +20,7 @@ mod words;
 #[cfg(test)]
 mod wrong;
 
-// The answer to a text: how many words and labels it has, or why it is refused.
+// The answer to a text: how many words and labels it has, or why it is refused. It hands on the three slices as they are.
 pub(crate) fn answer(
     text: &[u8],
     words: &mut [u32],
