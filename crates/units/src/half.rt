@@ -182,7 +182,8 @@ fn quotient(x: Value<11, 15>, y: Value<11, 15>) -> u32
     }
 }
 
-// v / 65536, rounded to single and then to half. The single unit's has the same three lines, and another formula.
+// v / 65536, rounded to single and then to half. The single unit's has the same three lines; one function
+// for both would take the formula as a closure, and be longer than the two.
 fn number(v: i32) -> u32
     ensures { result ≡ half.number v }
 {
