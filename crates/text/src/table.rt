@@ -64,8 +64,8 @@ impl Table<'_> {
     {
         let end = label.place + label.length;
         let own = &self.text[label.place..end];
-        // The last bytes first: with `own == name` alone 2,000 labels and 2,000 uses take 70 ms, and not 20.
-        own.last() == name.last() && own == name
+        // The lengths and the last bytes first: with `own == name` alone 2,000 labels and 2,000 uses take 70 ms, and not 20.
+        own.len() == name.len() && own.last() == name.last() && own == name
     }
 
     // The address of the label with this name.
