@@ -1,9 +1,9 @@
 -- What a scan with `any` answers; the setx of an address, one address on; every loop of an accepted program has one; and what breaks a rule stands in the program.
-use Rattle.std.proofs.Common.{◌≡◌, ℕ, zero, suc, ◌+◌, ◌-◌, ◌<◌, ◌≤◌, ◌⊎◌, ◌↔◌, Bool, true, false, List, length, get_or, take, drop, Some, IsTrue, refl, inl, inr, arith}
+use Rattle.std.proofs.Common.{◌≡◌, ℕ, zero, suc, ◌+◌, ◌-◌, ◌<◌, ◌≤◌, ◌⊎◌, ◌↔◌, Bool, true, false, List, length, get_or, min, take, drop, Some, IsTrue, refl, sym, ap, ◌∙◌, inl, inr, arith}
 use Rattle.std.specs.Bool.{MatchBool}
 use Rattle.std.specs.List.{AllWithin, HoldsAt}
 use Rattle.std.proofs.lemmas.Bool.{cases_lt, cases_eq}
-use Rattle.std.proofs.lemmas.List.{get_or-drop, get_or-take, length-drop, length-take}
+use Rattle.std.proofs.lemmas.List.{drop-take, get_or-drop, get_or-take, length-drop, length-take}
 use Rattle.program.specs.declared.word.Instruction.{Instruction}
 use Rattle.program.specs.declared.word.Instruction.TheVariants.{Setx, Loop}
 use Rattle.program.specs.Rules.{At, Looped, WrongLoop, Accepted}
@@ -48,6 +48,20 @@ setx_in words low high r h =
       λ s. let below = s.upto in both.1 (s.address, s.from, omega (arith, s.setx.within), (s.count, rw get_or-take s.setx.is)),
     )
 
+-- a part of the words, as a scan sees it
+pub part : (words : List ℕ) (low end : ℕ) → low ≤ end → take (end - low) (drop low words) ≡ drop low (take end words)
+part words low end h =
+    let e : low + (end - low) ≡ end = omega arith in
+    sym (drop-take low (end - low) words) ∙ ap (λ n. drop low (take n words)) e
+
+-- the same up to a high that may lie behind the last word
+pub setx_upto : (words : List ℕ) (low high end : ℕ) (r : Bool) → end ≡ min high (length words) → AnyFrom IsSetx (take end words) low r → IsTrue r ↔ SetxIn words low high
+setx_upto words low high end r e h =
+    let both = setx_in words low end r h in (
+      λ t. let s = both.0 t in let below = s.upto in record { address = s.address; count = s.count; setx = s.setx; from = s.from; upto = omega arith },
+      λ s. let below = s.upto in both.1 (record { address = s.address; count = s.count; setx = s.setx; from = s.from; upto = omega (arith, s.setx.within) }),
+    )
+
 pub loop_over : (words : List ℕ) (low : ℕ) (r : Bool) → AnyFrom (LoopsBelow low) words low r → IsTrue r ↔ LoopOver words low (length words)
 loop_over words low r h =
     let both = any_from (LoopsBelow low) words low r h in (
@@ -64,23 +78,23 @@ pub record LoopIn (words : List ℕ) (low high : ℕ) : Type 0 where
   pub upto : address < high
 
 -- from an address to the next
-module _ {words : List ℕ} {a : ℕ} where
-  own_here : (n : ℕ) → At words a (Setx n) → Own words (suc a) a n
+module _ {words : List ℕ} {a b : ℕ} (next : b ≡ suc a) where
+  pub own_here : (n : ℕ) → At words a (Setx n) → Own words b a n
   own_here n p = record { fed = record { setx = p; before = omega arith; nearest = λ k m lo hi. omega arith }; alone = λ k u lo hi. omega arith }
 
-  own_not : (t : ℕ) → At words a (Loop t) → (s n : ℕ) → Own words (suc a) s n → ⊥
+  pub own_not : (t : ℕ) → At words a (Loop t) → (s n : ℕ) → Own words b s n → ⊥
   own_not t p s n o =
       let before = o.fed.before in
       elim (cases_lt s a) [ inl h ↦ o.alone a t h (omega arith) p | inr h ↦ not_both (omega arith) o.fed.setx p ]
 
   module _ (no_setx : (n : ℕ) → At words a (Setx n) → ⊥) (no_loop : (t : ℕ) → At words a (Loop t) → ⊥) where
-    own_more : (s n : ℕ) → Own words a s n → Own words (suc a) s n
+    own_more : (s n : ℕ) → Own words a s n → Own words b s n
     own_more s n o = record {
       fed = record { setx = o.fed.setx; before = omega (arith, o.fed.before); nearest = λ k m lo hi p. elim (cases_eq k a) [ inl e ↦ no_setx m (rw e at p) | inr e ↦ o.fed.nearest k m lo (omega arith) p ] };
       alone = λ k u lo hi p. elim (cases_eq k a) [ inl e ↦ no_loop u (rw e at p) | inr e ↦ o.alone k u lo (omega arith) p ];
     }
 
-    own_less : (s n : ℕ) → Own words (suc a) s n → Own words a s n
+    own_less : (s n : ℕ) → Own words b s n → Own words a s n
     own_less s n o = record {
       fed = record {
         setx = o.fed.setx;
@@ -96,7 +110,7 @@ module _ {words : List ℕ} {t l : ℕ} (loop : At words l (Loop t)) where
   unfed_wrong none = record { target = t; loop = loop; unfed = λ s n p. none s n (record { fed = p.fed; alone = p.alone }) }
 
   module _ {s n : ℕ} (own : Own words l s n) where
-    fed_wrong : (t ≤ s) ⊎ (l < t) → WrongLoop words l
+    pub fed_wrong : (t ≤ s) ⊎ (l < t) → WrongLoop words l
     fed_wrong h = record { target = t; loop = loop; unfed = λ r m p. let e = (feeds_one own.fed p.fed).0 in let low = p.inside in let high = p.backward in elim h [ inl h ↦ omega arith | inr h ↦ omega arith ] }
 
     fed_right : s < t → t ≤ l → Looped words s n t l
@@ -106,10 +120,10 @@ abbrev Owns : List ℕ → ℕ → Type 0
 Owns words l = ((s : ℕ) × (n : ℕ) × Own words l s n) ⊎ ((s n : ℕ) → Own words l s n → ⊥)
 
 owns_more : {words : List ℕ} {a : ℕ} {i : Instruction} → Kind i → At words a i → Owns words a → Owns words (suc a)
-owns_more {a} (is_setx n) p o = inl (a, n, own_here n p)
-owns_more (is_loop t) p o = inr (own_not t p)
-owns_more (plain g) p (inl (s, n, o)) = inl (s, n, own_more (λ n q. g.no_setx n (at_one refl p q)) (λ t q. g.no_loop t (at_one refl p q)) s n o)
-owns_more (plain g) p (inr none) = inr (λ s n o. none s n (own_less (λ n q. g.no_setx n (at_one refl p q)) (λ t q. g.no_loop t (at_one refl p q)) s n o))
+owns_more {a} (is_setx n) p o = inl (a, n, own_here refl n p)
+owns_more (is_loop t) p o = inr (own_not refl t p)
+owns_more (plain g) p (inl (s, n, o)) = inl (s, n, own_more refl (λ n q. g.no_setx n (at_one refl p q)) (λ t q. g.no_loop t (at_one refl p q)) s n o)
+owns_more (plain g) p (inr none) = inr (λ s n o. none s n (own_less refl (λ n q. g.no_setx n (at_one refl p q)) (λ t q. g.no_loop t (at_one refl p q)) s n o))
 
 module _ {words : List ℕ} (ok : Accepted words) where
   -- an address has a setx of its own, or none

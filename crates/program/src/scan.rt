@@ -8,17 +8,20 @@ use crate::word::Instruction;
 pub(crate) fn has_setx(words: &[u32], low: usize, high: usize) -> bool
     ensures { IsTrue result ↔ SetxIn words.now low high }
 {
-    words.iter().take(high).skip(low).any(|word| matches!(
-        Instruction::try_from(*word),
-        Ok(Instruction::Setx(_))
-    ))
+    let end = high.min(words.len());
+    low < end
+        && words[low..end].iter().any(|word| matches!(
+            Instruction::try_from(*word),
+            Ok(Instruction::Setx(_))
+        ))
 }
 
 // Whether a loop at or above the address goes back below it.
 pub(crate) fn is_looped_over(words: &[u32], address: usize) -> bool
     ensures { IsTrue result ↔ LoopOver words.now address (length words.now) }
 {
-    words.iter().skip(address).any(
-        |word| matches!(Instruction::try_from(*word), Ok(Instruction::Loop(start)) if start < address),
-    )
+    address < words.len()
+        && words[address..].iter().any(
+            |word| matches!(Instruction::try_from(*word), Ok(Instruction::Loop(start)) if start < address),
+        )
 }

@@ -1,12 +1,13 @@
-use Rattle.std.proofs.Common.{rules}
-use Rattle.std.proofs.lemmas.Iterator.{YieldsList-from_slice, YieldsList-from_take, cases_from_any}
-use Rattle.std.proofs.lemmas.Iterator.Adapters.{YieldsList-from_skip}
-use Rattle.std.proofs.lemmas.Iterator.Consumers.{YieldsList-at}
-use Rattle.program.proofs.Scans.{IsSetx, setx_in}
+use Rattle.std.proofs.Common.{rules, ◌∙◌, arith}
+use Rattle.std.proofs.lemmas.Iterator.{YieldsList-from_slice, cases_from_any}
+use Rattle.program.proofs.Scans.{IsSetx, part, setx_upto}
 use Rattle.program.proofs.scan.has_setx.Goals as goal
 
-pub returns : goal.returns
-returns c =
-    setx_in c.args.words.now c.args.low c.args.high c.any.result (cases_from_any _ _ _ IsSetx (λ w. IsSetx w → ⊥) c.any.ensures.ran (
-    YieldsList-from_skip {s = c.skip.result} c.args.low (YieldsList-at c.skip.ensures.source (YieldsList-from_take c.args.high (YieldsList-from_slice c.args.words.now (search rules)) c.take.ensures.count)) c.skip.ensures.count
+pub returns-then-low-end : goal.returns-then-low-end
+returns-then-low-end c =
+    let words = c.args.words.now in
+    let low = c.args.low in
+    let end = c.min-end.result in
+    setx_upto words low c.args.high end c.any.result c.min-end.ensures (cases_from_any _ _ _ IsSetx (λ w. IsSetx w → ⊥) c.any.ensures.ran (
+    YieldsList-from_slice _ (c.iter.ensures.rest ∙ part words low end (omega (arith, c.if-low-end.true)))
     ) (λ x q k. search rules) (λ x q k. search rules))
