@@ -17,11 +17,10 @@ impl Layout<16> for u16 {
 
     ghost good_block = { plain_good };
 
-    // Copied and then cut: of numbers written through a zip nothing is known, and a map of the array takes over ten times as long.
+    // By the lane's number: of numbers written through a zip nothing is known, and a map of the array takes over ten times as long.
     fn write(block: &mut [u16; 16], colours: &[u16; 16]) {
-        *block = *colours;
-        for number in block {
-            *number %= 4096;
+        for (lane, number) in block.iter_mut().enumerate() {
+            *number = colours[lane] % 4096;
         }
     }
 

@@ -1,9 +1,10 @@
--- One more number is its colour.
-use Rattle.std.proofs.Common.{arith}
-use Rattle.std.proofs.lemmas.Grind.{common_steps}
-use Rattle.std.proofs.lemmas.List.Edits.{map_over_more}
+-- All sixteen lanes are written.
+use Rattle.std.proofs.Common.{sym, ◌∙◌, arith}
+use Rattle.std.proofs.lemmas.List.{ext_get_or, length-map, get_or-map}
 use Rattle.sinks.specs.Pictures.{colour_of}
 use Rattle.sinks.proofs.plain.U16Layout16.write.Goals as goal
 
-pub loop-number-preserved : goal.loop-number-preserved
-loop-number-preserved c = grind (arith, common_steps, map_over_more colour_of)
+pub returns : goal.returns
+returns c =
+    let (long, before) = c.loop-lane.invariant in
+    ext_get_or 0 _ _ (omega (arith, long, length-map c.args.colours.now colour_of)) (λ k h. before k (omega arith) ∙ sym (get_or-map colour_of c.args.colours.now k 0 0 (omega arith)))
