@@ -4,6 +4,7 @@ use Rattle.operations.specs.declared.Binary.{Binary}
 use Rattle.operations.specs.declared.Binary.TheVariants.{Add, Sub, Mul, Div}
 use Rattle.operations.specs.declared.Unary.{Unary}
 use Rattle.operations.specs.declared.Unary.TheVariants.{Floor, Abs, Sqrt}
+use Rattle.operations.specs.Codes.{binary_code, unary_code}
 use Rattle.program.specs.declared.word.Instruction.{Instruction}
 use Rattle.program.specs.declared.word.Instruction.TheVariants as ins
 use Rattle.program.specs.declared.word.UnknownWord.{UnknownWord}
@@ -28,11 +29,12 @@ branch_target w = field_d w * 128 + w % 128
 abbrev pub loop_target : ℕ → ℕ
 loop_target w = w % 2048
 
+-- the function of two registers, or of one, with this code
 abbrev pub binary_of : ℕ → Binary
-binary_of c = cond (c == 0) Add (cond (c == 1) Sub (cond (c == 2) Mul Div))
+binary_of c = cond (c == binary_code Add) Add (cond (c == binary_code Sub) Sub (cond (c == binary_code Mul) Mul Div))
 
 abbrev pub unary_of : ℕ → Unary
-unary_of c = cond (c == 4) Floor (cond (c == 5) Abs Sqrt)
+unary_of c = cond (c == unary_code Floor) Floor (cond (c == unary_code Abs) Abs Sqrt)
 
 unfoldable pub decoded : ℕ → Option Instruction
 decoded w =
