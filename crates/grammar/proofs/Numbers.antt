@@ -47,7 +47,7 @@ module _ (text : List ℕ) (some : 0 < length text) (dollar : get_or text 0 0 �
   split : text ≡ 36 ∷ between 1 (length text) text
   split = first_rest text 0 some ∙ ap (λ b. b ∷ between 1 (length text) text) dollar
 
-  no_register : ((v : ℕ) → v ≤ 31 → between 1 (length text) text ≡ decimal v → ⊥) → (v : ℕ) → v ≤ 31 → text ≡ 36 ∷ decimal v → ⊥
+  pub no_register : ((v : ℕ) → v ≤ 31 → between 1 (length text) text ≡ decimal v → ⊥) → (v : ℕ) → v ≤ 31 → text ≡ 36 ∷ decimal v → ⊥
   no_register h v le e =
       let s = split in
       let same : between 1 (length text) text ≡ decimal v = cc in

@@ -61,7 +61,7 @@ label_within text at bytes address (Some n) code t s =
     (omega (arith, (label_place bytes n _ s.spelled.1).1), tt)
 
 -- so do the labels of all good lines
-lines_names : (text : List ℕ) (W L n : ℕ) (s : State) → Lines text W L n s → AllByRecursion (Within text) s.defs
+pub lines_names : (text : List ℕ) (W L n : ℕ) (s : State) → Lines text W L n s → AllByRecursion (Within text) s.defs
 lines_names text W L n s none = tt
 lines_names text W L n s (then {s = p} q a) =
     subst (λ x. AllByRecursion (Within text) x.defs) (sym a.is)

@@ -139,7 +139,7 @@ module _ {text : List ℕ} {table : List Label} {W L : ℕ} {s : State} {at line
   upto_all k = subst (AllByRecursion (Known text s)) (code_all k) h.known
 
 -- one word more behind those that are written
-word_more : (front old : List ℕ) (i w : ℕ) → i < length old → length front ≡ i → set (front ++ drop i old) i w ≡ (front ++ w ∷ []) ++ drop (i + 1) old
+pub word_more : (front old : List ℕ) (i w : ℕ) → i < length old → length front ≡ i → set (front ++ drop i old) i w ≡ (front ++ w ∷ []) ++ drop (i + 1) old
 word_more front old i w h e = ap (λ l. set (front ++ l) i w) (drop_more old i 0 h) ∙ set_at front _ _ w i e ∙ sym (append_assoc front (w ∷ []) (drop (i + 1) old))
 
 -- and their words are written

@@ -11,10 +11,10 @@ use Rattle.ieee.proofs.FloorLaws.{floor_stands}
 use Rattle.ieee.proofs.Library.{adds, subs, muls, divs}
 use Rattle.units.specs.Laws.{Twice}
 
-halves : OperationsStand 11 15
+pub halves : OperationsStand 11 15
 halves = operations_stand 11 15 (omega arith) (omega arith)
 
-singles : OperationsStand 24 127
+pub singles : OperationsStand 24 127
 singles = operations_stand 24 127 (omega arith) (omega arith)
 
 pub right_sum : (p e a b r : ℕ) → 2 ≤ p → 1 ≤ e → r ≡ add p e a b → Right p e (sum (decode p e a) (decode p e b)) r
